@@ -1,0 +1,36 @@
+// Reading a whole sheet.
+ghost use mathlib.Core.Path.{_≡_};
+ghost use Rattle.sheets.specs.Names.{namesOf};
+ghost use Rattle.sheets.specs.Reads.{namedOf, namesAfter, unnamed, readOf, sheetRead};
+use crate::arrangement::Docket;
+use crate::fault::SheetFault;
+use crate::names::Names;
+use crate::reader::Reader;
+
+// The docket that a sheet describes; the names of its tokens go to `names`, which stay as they were where the sheet is refused.
+pub fn read_named<'a>(sheet: &'a [u8], names: &mut Names<'a>) -> Result<Docket, SheetFault>
+    ensures reads { λ r. ⌜ sheetRead r ≡ unnamed (namedOf (now (sheet .entry))) ⌝ }
+    ensures names { λ r. ⌜ namesOf (now (names .exit)) ≡ namesAfter (namedOf (now (sheet .entry))) (namesOf (now (names .entry))) ⌝ }
+{
+    if sheet.len() > 2048 {
+        return Err(SheetFault::TooLong);
+    }
+    let mut reader = Reader { sheet, at: 0 };
+    let mut found = Names::new();
+    let number = reader.docket_line()?;
+    let arrangement = reader.arrangement(&mut found)?;
+    reader.end()?;
+    *names = found;
+    Ok(Docket {
+        number,
+        arrangement,
+    })
+}
+
+// The docket that a sheet describes.
+pub fn read(sheet: &[u8]) -> Result<Docket, SheetFault>
+    ensures { λ r. ⌜ sheetRead r ≡ readOf (now (sheet .entry)) ⌝ }
+{
+    let mut names = Names::new();
+    read_named(sheet, &mut names)
+}
