@@ -5,3 +5,8 @@ pub mod AgentFacts
 pub mod Namings
 pub mod Parts
 pub mod TokenParts
+pub mod TokenDone
+pub mod Lengths
+pub mod Written
+pub mod Places
+pub mod Dockets

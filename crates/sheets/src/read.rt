@@ -2,6 +2,7 @@
 ghost use mathlib.Core.Path.{_≡_};
 ghost use Rattle.sheets.specs.Names.{namesOf};
 ghost use Rattle.sheets.specs.Reads.{namedOf, namesAfter, unnamed, readOf, sheetRead};
+ghost use Rattle.sheets.specs.Rendered.{Read-is-written, Texts-apart, Every-docket-written, Faults-placed};
 use crate::arrangement::Docket;
 use crate::fault::SheetFault;
 use crate::names::Names;
@@ -27,9 +28,13 @@ pub fn read_named<'a>(sheet: &'a [u8], names: &mut Names<'a>) -> Result<Docket, 
     })
 }
 
-// The docket that a sheet describes.
+// The docket that a sheet describes. A sheet is accepted exactly if it is the text of a docket.
 pub fn read(sheet: &[u8]) -> Result<Docket, SheetFault>
-    ensures { λ r. ⌜ sheetRead r ≡ readOf (now (sheet .entry)) ⌝ }
+    ensures reads { λ r. ⌜ sheetRead r ≡ readOf (now (sheet .entry)) ⌝ }
+    ensures written { λ _. ⌜ Read-is-written ⌝ }
+    ensures apart { λ _. ⌜ Texts-apart ⌝ }
+    ensures described { λ _. ⌜ Every-docket-written ⌝ }
+    ensures placed { λ _. ⌜ Faults-placed ⌝ }
 {
     let mut names = Names::new();
     read_named(sheet, &mut names)
