@@ -36,14 +36,14 @@ one-letter c h k = and-from (small c) true (and-from _ _ (le-leb 97 c h) (le-leb
 
 lettered : (n : ℕ) → n ≤ 16 → Naming (letters 97 n) n
 lettered n h = record {
-    count = letters-length 97 n;
-    each = λ k l. ap isName (letter-at 97 n k l) ∙ one-letter (97 + k) (omega arith) (omega arith);
-    apart = λ i j l m e.
+  count = letters-length 97 n;
+  each = λ k l. ap isName (letter-at 97 n k l) ∙ one-letter (97 + k) (omega arith) (omega arith);
+  apart = λ i j l m e.
       let a : i < n = omega arith in
       let f : _≡_ {A = List ℕ} ((97 + i) ∷ []) ((97 + j) ∷ []) = sym (letter-at 97 n i a) ∙ e ∙ letter-at 97 n j m in
       let g : 97 + i ≡ 97 + j = cc in
-      omega arith
-  }
+      omega arith;
+}
 
 tokens-few : (p : Program) → formed p ≡ true → usedByAll 0 (p .lines) ≤ 16
 tokens-few p h =

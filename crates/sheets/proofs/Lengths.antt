@@ -74,8 +74,15 @@ shake-length s rest h =
     let w2 : List ℕ = spaced (decimal (s .capacity)) w1 in
     let w3 : List ℕ = spaced (decimal (s .responders)) w2 in
     omega (
-      arith, spaced-length (decimal (s .initiators)) w3, spaced-length (decimal (s .responders)) w2, spaced-length (decimal (s .capacity)) w1, spaced-length (cond (s .lowe) (codes "lowe") (codes "original")) (10 ∷ rest),
-      lowe-length (s .lowe), short-number 3 (s .initiators) (omega arith) (h .0 .1), short-number 3 (s .responders) (omega arith) (h .1 .1), short-number 4 (s .capacity) (omega arith) (h .2 .1)
+      arith,
+      spaced-length (decimal (s .initiators)) w3,
+      spaced-length (decimal (s .responders)) w2,
+      spaced-length (decimal (s .capacity)) w1,
+      spaced-length (cond (s .lowe) (codes "lowe") (codes "original")) (10 ∷ rest),
+      lowe-length (s .lowe),
+      short-number 3 (s .initiators) (omega arith) (h .0 .1),
+      short-number 3 (s .responders) (omega arith) (h .1 .1),
+      short-number 4 (s .capacity) (omega arith) (h .2 .1),
     )
 
 plan-length : (a : Plan) (ns : List (List ℕ)) → WellPlan a → Names-for a ns → length (renderPlan a ns []) ≤ 420

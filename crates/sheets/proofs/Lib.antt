@@ -10,3 +10,4 @@ pub mod Lengths
 pub mod Written
 pub mod Places
 pub mod Dockets
+pub mod Shown

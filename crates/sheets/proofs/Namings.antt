@@ -66,7 +66,7 @@ module _ (ns : List (List ℕ)) (w : List ℕ) (nm : Naming ns (length ns)) (is 
         naming = subst (λ l. Naming l (length l)) (sym q) nm;
         extends = subst (Extends ns) (sym q) (extends-self ns);
         here = ap (λ l. getD l (indexOf ns w) []) q ∙ index-found ns w h;
-        count = ap length q ∙ omega arith
+        count = ap length q ∙ omega arith;
       }
 
   abbrev grown : List (List ℕ)
@@ -94,8 +94,8 @@ module _ (ns : List (List ℕ)) (w : List ℕ) (nm : Naming ns (length ns)) (is 
       count = long;
       each = λ j h. ⊎-elim (λ l. ap isName (old j l) ∙ nm .each j l) (λ e. ap isName (new j e) ∙ is) (split j h);
       apart = λ i j l h e. ⊎-elim
-        (λ m. let b : i < length ns = omega arith in nm .apart i j l m (sym (old i b) ∙ e ∙ old j m))
-        (λ m. let b : i < length ns = omega arith in index-before ns w i (omega arith) (sym (old i b) ∙ e ∙ new j m)) (split j h)
+          (λ m. let b : i < length ns = omega arith in nm .apart i j l m (sym (old i b) ∙ e ∙ old j m))
+          (λ m. let b : i < length ns = omega arith in index-before ns w i (omega arith) (sym (old i b) ∙ e ∙ new j m)) (split j h);
     }
 
     fresh : ltb (indexOf ns w) (length ns) ≡ false → Numbered ns w
@@ -106,7 +106,7 @@ module _ (ns : List (List ℕ)) (w : List ℕ) (nm : Naming ns (length ns)) (is 
           naming = subst (λ l. Naming l (length l)) (sym q) g;
           extends = subst (Extends ns) (sym q) (record { more = omega (arith, long); same = λ j h. old j h });
           here = ap (λ l. getD l (indexOf ns w) []) q ∙ new (indexOf ns w) (sym k);
-          count = ap length q ∙ omega (arith, long)
+          count = ap length q ∙ omega (arith, long);
         }
 
   pub numbered : Numbered ns w

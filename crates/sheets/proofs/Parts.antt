@@ -27,9 +27,6 @@ use Rattle.sheets.specs.Words.{solid, digit, runAt, textAt, allOf, within, rea
 use Rattle.sheets.specs.Reads.{Got, andThen, wordAt, stop, separatorAt, keywordIn, keywordAt, numberIn, numberAt, spacedAt}
 use Rattle.sheets.specs.Rendered.{Between}
 
-
-
-
 pub inj : {X : Type 0} {x y : X} → _≡_ {A = Result X SheetFault} (Ok x) (Ok y) → x ≡ y
 inj e = cc
 

@@ -105,7 +105,7 @@ module _ (b : List ℕ) where
       some : (k : Kind) → at < length b → at + runAt b at ≤ length b → Inside (length b) (eitherIn v w b at (Some k))
       some (keyword t) l m =
           cond-in (length b) (sameBytes t v) (Ok (false, at + runAt b at)) (cond (sameBytes t w) (Ok (true, at + runAt b at)) (Err (Misplaced at))) m
-            (cond-in (length b) (sameBytes t w) (Ok (true, at + runAt b at)) (Err (Misplaced at)) m l)
+          (cond-in (length b) (sameBytes t w) (Ok (true, at + runAt b at)) (Err (Misplaced at)) m l)
       some (number t) l m = l
       some (instruction t) l m = l
       some (name t) l m = l
@@ -113,9 +113,9 @@ module _ (b : List ℕ) where
   docket-in : (at : ℕ) → at ≤ length b → Inside (length b) (docketAt b at)
   docket-in at h =
       then-in (length b) (keywordAt (codes "docket") b at) _ (keyword-in (codes "docket") at h) (λ _ p h1.
-        then-in (length b) (separatorAt 32 b p) _ (sep-in 32 p h1) (λ _ q h2.
-          then-in (length b) (numberAt 1 9999 b q) _ (number-in 1 9999 q h2) (λ n r h3.
-            then-in (length b) (separatorAt 10 b r) (λ _ s. Ok (n, s)) (sep-in 10 r h3) (λ _ s h4. h4))))
+      then-in (length b) (separatorAt 32 b p) _ (sep-in 32 p h1) (λ _ q h2.
+      then-in (length b) (numberAt 1 9999 b q) _ (number-in 1 9999 q h2) (λ n r h3.
+      then-in (length b) (separatorAt 10 b r) (λ _ s. Ok (n, s)) (sep-in 10 r h3) (λ _ s h4. h4))))
 
   spaced-in : (low high at : ℕ) → at ≤ length b → Inside (length b) (spacedAt low high b at)
   spaced-in low high at h = then-in (length b) (separatorAt 32 b at) (λ _ p. numberAt low high b p) (sep-in 32 at h) (λ _ p k. number-in low high p k)
@@ -123,11 +123,11 @@ module _ (b : List ℕ) where
   shake-in : (at : ℕ) → at ≤ length b → Inside (length b) (shakeAt b at)
   shake-in at h =
       then-in (length b) (spacedAt 1 3 b at) _ (spaced-in 1 3 at h) (λ i p h1.
-        then-in (length b) (spacedAt 1 3 b p) _ (spaced-in 1 3 p h1) (λ j q h2.
-          then-in (length b) (spacedAt 1 4 b q) _ (spaced-in 1 4 q h2) (λ m r h3.
-            then-in (length b) (separatorAt 32 b r) _ (sep-in 32 r h3) (λ _ s h4.
-              then-in (length b) (eitherAt (codes "original") (codes "lowe") b s) _ (either-in (codes "original") (codes "lowe") s h4) (λ l t h5.
-                then-in (length b) (separatorAt 10 b t) (λ _ u. Ok (record { initiators = i; responders = j; capacity = m; lowe = l }, u)) (sep-in 10 t h5) (λ _ u h6. h6))))))
+      then-in (length b) (spacedAt 1 3 b p) _ (spaced-in 1 3 p h1) (λ j q h2.
+      then-in (length b) (spacedAt 1 4 b q) _ (spaced-in 1 4 q h2) (λ m r h3.
+      then-in (length b) (separatorAt 32 b r) _ (sep-in 32 r h3) (λ _ s h4.
+      then-in (length b) (eitherAt (codes "original") (codes "lowe") b s) _ (either-in (codes "original") (codes "lowe") s h4) (λ l t h5.
+      then-in (length b) (separatorAt 10 b t) (λ _ u. Ok (record { initiators = i; responders = j; capacity = m; lowe = l }, u)) (sep-in 10 t h5) (λ _ u h6. h6))))))
 
   act-in : (s : Sofar) (at : ℕ) → at ≤ length b → Inside (length b) (actAt s b at)
   act-in s at h = word-in (actIn s b at) at h (stop-in at h) some
@@ -137,7 +137,7 @@ module _ (b : List ℕ) where
       some (number t) l m = l
       some (instruction t) l m =
           cond-in (length b) (leb 8 (length (s .acts))) (Err (OutOfRange at)) (cond (leb 16 (indexOf (s .names) (drop 1 t))) (Err (OutOfRange at)) (Ok (withAct s t, at + runAt b at))) l
-            (cond-in (length b) (leb 16 (indexOf (s .names) (drop 1 t))) (Err (OutOfRange at)) (Ok (withAct s t, at + runAt b at)) l m)
+          (cond-in (length b) (leb 16 (indexOf (s .names) (drop 1 t))) (Err (OutOfRange at)) (Ok (withAct s t, at + runAt b at)) l m)
       some (name t) l m = l
 
   space-in : (at : ℕ) → spaceAt b at ≡ true → at + 1 ≤ length b
@@ -148,7 +148,7 @@ module _ (b : List ℕ) where
   acts-in zero s at h = stop-in at h
   acts-in (suc m) s at h =
       then-in (length b) (actAt s b at) _ (act-in s at h) (λ t p k.
-        after t p k (λ e. acts-in m t (p + 1) e) (spaceAt b p) refl)
+      after t p k (λ e. acts-in m t (p + 1) e) (spaceAt b p) refl)
     where
       after : (t : Sofar) (p : ℕ) → p ≤ length b → (p + 1 ≤ length b → Inside (length b) (actsAt m t b (p + 1))) → (c : Bool) → spaceAt b p ≡ c → Inside (length b) (cond c (actsAt m t b (p + 1)) (andThen (separatorAt 10 b p) (λ _ q. Ok (t, q))))
       after t p k more true e = more (space-in p e)
@@ -166,15 +166,15 @@ module _ (b : List ℕ) where
   agent-in : (s : Listed) (at : ℕ) → at ≤ length b → Inside (length b) (agentAt s b at)
   agent-in s at h =
       then-in (length b) (separatorAt 32 b at) _ (sep-in 32 at h) (λ _ p k.
-        then-in (length b) (actsAt 9 (sofar (s .names) []) b p) _ (acts-in 9 (sofar (s .names) []) p k) (λ t q l. l))
+      then-in (length b) (actsAt 9 (sofar (s .names) []) b p) _ (acts-in 9 (sofar (s .names) []) p k) (λ t q l. l))
 
   agents-in : (m : ℕ) (s : Listed) (at : ℕ) → at ≤ length b → Inside (length b) (agentsAt m s b at)
   unfolding agentsAt
   agents-in zero s at h = stop-in at h
   agents-in (suc m) s at h =
       then-in (length b) (headAt (length (s .lines)) b at) _ (head-in (length (s .lines)) at h) (λ agent p k.
-        cond-in (length b) agent (andThen (agentAt s b p) (λ t q. agentsAt m t b q)) (Ok (s, p))
-          (then-in (length b) (agentAt s b p) (λ t q. agentsAt m t b q) (agent-in s p k) (λ t q l. agents-in m t q l)) k)
+      cond-in (length b) agent (andThen (agentAt s b p) (λ t q. agentsAt m t b q)) (Ok (s, p))
+      (then-in (length b) (agentAt s b p) (λ t q. agentsAt m t b q) (agent-in s p k) (λ t q l. agents-in m t q l)) k)
 
   token-in : (ns : List (List ℕ)) (at : ℕ) → at ≤ length b → Inside (length b) (tokenAt ns b at)
   token-in ns at h = word-in (tokenIn ns b at) at h (stop-in at h) some
@@ -191,14 +191,14 @@ module _ (b : List ℕ) where
   breach-in : (ns : List (List ℕ)) (at : ℕ) → at ≤ length b → Inside (length b) (breachAt ns b at)
   breach-in ns at h =
       then-in (length b) (separatorAt 32 b at) _ (sep-in 32 at h) (λ _ p k.
-        then-in (length b) (tokenAt ns b p) _ (token-in ns p k) (λ j q l.
-          then-in (length b) (separatorAt 10 b q) (λ _ r. Ok (j, r)) (sep-in 10 q l) (λ _ r m. m)))
+      then-in (length b) (tokenAt ns b p) _ (token-in ns p k) (λ j q l.
+      then-in (length b) (separatorAt 10 b q) (λ _ r. Ok (j, r)) (sep-in 10 q l) (λ _ r m. m)))
 
   program-in : (at : ℕ) → at ≤ length b → Inside (length b) (programAt b at)
   program-in at h =
       then-in (length b) (separatorAt 10 b at) _ (sep-in 10 at h) (λ _ p k.
-        then-in (length b) (agentsAt 5 (listed [] []) b p) _ (agents-in 5 (listed [] []) p k) (λ s q l.
-          then-in (length b) (breachAt (s .names) b q) _ (breach-in (s .names) q l) (λ j r m. m)))
+      then-in (length b) (agentsAt 5 (listed [] []) b p) _ (agents-in 5 (listed [] []) p k) (λ s q l.
+      then-in (length b) (breachAt (s .names) b q) _ (breach-in (s .names) q l) (λ j r m. m)))
 
   plan-in : (at : ℕ) → at ≤ length b → Inside (length b) (planAt b at)
   plan-in at h = word-in (planIn b at) at h (stop-in at h) some
@@ -206,7 +206,7 @@ module _ (b : List ℕ) where
       some : (k : Kind) → at < length b → at + runAt b at ≤ length b → Inside (length b) (planIn b at (Some k))
       some (keyword t) l m =
           cond-in (length b) (sameBytes t (codes "handshake")) _ _ (then-in (length b) (shakeAt b (at + runAt b at)) (λ v p. Ok ((shake v, []), p)) (shake-in (at + runAt b at) m) (λ v p k. k))
-            (cond-in (length b) (sameBytes t (codes "tokens")) _ (Err (Misplaced at)) (then-in (length b) (programAt b (at + runAt b at)) (λ n p. Ok ((tokens (n .0), n .1), p)) (program-in (at + runAt b at) m) (λ v p k. k)) l)
+          (cond-in (length b) (sameBytes t (codes "tokens")) _ (Err (Misplaced at)) (then-in (length b) (programAt b (at + runAt b at)) (λ n p. Ok ((tokens (n .0), n .1), p)) (program-in (at + runAt b at) m) (λ v p k. k)) l)
       some (number t) l m = l
       some (instruction t) l m = l
       some (name t) l m = l
@@ -221,8 +221,8 @@ module _ (b : List ℕ) where
   sheet-in : (at : ℕ) → at ≤ length b → Inside (length b) (sheetAt b at)
   sheet-in at h =
       then-in (length b) (docketAt b at) _ (docket-in at h) (λ n p k.
-        then-in (length b) (planAt b p) _ (plan-in p k) (λ a q l.
-          then-in (length b) (endAt b q) (λ _ r. Ok ((record { number = n; plan = a .0 }, a .1), r)) (end-in q l) (λ _ r m. m)))
+      then-in (length b) (planAt b p) _ (plan-in p k) (λ a q l.
+      then-in (length b) (endAt b q) (λ _ r. Ok ((record { number = n; plan = a .0 }, a .1), r)) (end-in q l) (λ _ r m. m)))
 
   placed-in : (e : SheetFault) → length b ≤ 2048 → FaultIn (length b) e → Placed-in b e
   placed-in TooLong h f = absurd f
@@ -252,6 +252,6 @@ module _ (b : List ℕ) where
 
 pub faults-placed : Faults-placed
 faults-placed = record {
-    placed = λ b e h. named-fault b e (unnamed-fault b (namedOf b) e h);
-    long = λ b h. ap unnamed (named-long b h)
-  }
+  placed = λ b e h. named-fault b e (unnamed-fault b (namedOf b) e h);
+  long = λ b h. ap unnamed (named-long b h);
+}

@@ -119,7 +119,7 @@ module _ (fs : List (List ℕ)) (nm : Naming fs (length fs)) (n t : ℕ) (front 
 
 -- ---- an instruction
 pub act-done : (s : Sofar) (g : ℕ) (w : List ℕ) (b : List ℕ) (at : ℕ) (rest : List ℕ) → sign g ≡ true → isName w ≡ true → length (s .acts) < 8 → indexOf (s .names) w < 16 → Blank rest → drop at b ≡ (g ∷ w) ++ rest
-  → Done (actAt s b at) (withAct s (g ∷ w)) b rest
+    → Done (actAt s b at) (withAct s (g ∷ w)) b rest
 act-done s g w b at rest h k few room blank e =
     let t = word-done b at (g ∷ w) rest (and-from _ _ (solid-sign g h) (solid-name w k)) blank e in
     (at + runAt b at, ap (actIn s b at) (t .0 ∙ kind-act g w h k) ∙ cond-false _ _ _ (lt-leb 8 _ few) ∙ cond-false _ _ _ (lt-leb 16 _ room), t .1)
@@ -185,40 +185,40 @@ module _ (fs : List (List ℕ)) (nm : Naming fs (length fs)) (few : length fs �
     first-done at rest blank e =
         let below = token-in in
         subst (λ x. Done (actAt (sofar (take n fs) js) b at) x b rest) act-is
-          (act-done (sofar (take n fs) js) (a .sign) (getD fs (a .token) []) b at rest (parts .0) (nm .each (a .token) token-in) room (omega (arith, token-is, few)) blank e)
+        (act-done (sofar (take n fs) js) (a .sign) (getD fs (a .token) []) b at rest (parts .0) (nm .each (a .token) token-in) room (omega (arith, token-is, few)) blank e)
 
   pub acts-done : (left : ℕ) (ks : List Act) (n : ℕ) (a : Act) (js : List Act) (at : ℕ) (rest : List ℕ) → inOrder n (a ∷ ks) ≡ true → n ≤ length fs → usedBy n (a ∷ ks) ≤ length fs
-    → length js + length ks < 8 → length ks < left → drop at b ≡ renderAct fs a ++ renderActs fs ks rest
-    → Done (actsAt left (sofar (take n fs) js) b at) (sofar (take (usedBy n (a ∷ ks)) fs) (js ++ (a ∷ ks))) b rest
+      → length js + length ks < 8 → length ks < left → drop at b ≡ renderAct fs a ++ renderActs fs ks rest
+      → Done (actsAt left (sofar (take n fs) js) b at) (sofar (take (usedBy n (a ∷ ks)) fs) (js ++ (a ∷ ks))) b rest
   acts-done zero ks n a js at rest order front inside room less e = absurd (omega arith)
   acts-done (suc left) [] n a js at rest order front inside room less e =
       let x : Sofar = sofar (take (used n a) fs) (js ++ (a ∷ [])) in
       acts-open left (sofar (take n fs) js) x b at rest
-        (done-then (actAt (sofar (take n fs) js) b at) (afterAct left b) x x b (10 ∷ rest) rest (first-done n a [] js order front inside (omega arith) at (10 ∷ rest) refl e)
-          (λ p f. let d = done-then (separatorAt 10 b p) (λ _ q. Ok (x, q)) tt x b rest rest (sep-done 10 b p rest f) (λ q g. (q, refl, g)) in
-            (d .0, cond-false _ _ _ (space-no b p rest f) ∙ d .1, d .2)))
+      (done-then (actAt (sofar (take n fs) js) b at) (afterAct left b) x x b (10 ∷ rest) rest (first-done n a [] js order front inside (omega arith) at (10 ∷ rest) refl e)
+      (λ p f. let d = done-then (separatorAt 10 b p) (λ _ q. Ok (x, q)) tt x b rest rest (sep-done 10 b p rest f) (λ q g. (q, refl, g)) in
+      (d .0, cond-false _ _ _ (space-no b p rest f) ∙ d .1, d .2)))
   acts-done (suc left) (k ∷ ks) n a js at rest order front inside room less e =
       let y : Sofar = sofar (take (used n a) fs) (js ++ (a ∷ [])) in
       let x : Sofar = sofar (take (usedBy n (a ∷ (k ∷ ks))) fs) (js ++ (a ∷ (k ∷ ks))) in
       let long : length (js ++ (a ∷ [])) ≡ length js + 1 = length-append js (a ∷ []) in
       acts-open left (sofar (take n fs) js) x b at rest
-        (done-then (actAt (sofar (take n fs) js) b at) (afterAct left b) y x b (renderActs fs (k ∷ ks) rest) rest
-          (first-done n a (k ∷ ks) js order front inside (omega arith) at (renderActs fs (k ∷ ks) rest) refl e)
-          (λ p f.
-            let s = space-yes b p (renderAct fs k ++ renderActs fs ks rest) f in
-            let d = acts-done left ks (used n a) k (js ++ (a ∷ [])) (p + 1) rest (rest-order n a (k ∷ ks) js order front inside (omega arith)) (next-front n a (k ∷ ks) js order front inside (omega arith)) inside (omega arith) (omega arith) (s .1) in
-            (d .0, cond-true _ _ _ (s .0) ∙ d .1 ∙ ap (λ l. Ok (sofar (take (usedBy n (a ∷ (k ∷ ks))) fs) l, d .0)) (append-assoc js (a ∷ []) (k ∷ ks)), d .2)))
+      (done-then (actAt (sofar (take n fs) js) b at) (afterAct left b) y x b (renderActs fs (k ∷ ks) rest) rest
+      (first-done n a (k ∷ ks) js order front inside (omega arith) at (renderActs fs (k ∷ ks) rest) refl e)
+      (λ p f.
+      let s = space-yes b p (renderAct fs k ++ renderActs fs ks rest) f in
+      let d = acts-done left ks (used n a) k (js ++ (a ∷ [])) (p + 1) rest (rest-order n a (k ∷ ks) js order front inside (omega arith)) (next-front n a (k ∷ ks) js order front inside (omega arith)) inside (omega arith) (omega arith) (s .1) in
+      (d .0, cond-true _ _ _ (s .0) ∙ d .1 ∙ ap (λ l. Ok (sofar (take (usedBy n (a ∷ (k ∷ ks))) fs) l, d .0)) (append-assoc js (a ∷ []) (k ∷ ks)), d .2)))
 
   -- ---- the agents' lines
   pub agent-done : (ks : List Act) (n : ℕ) (a : Act) (ls : List (List Act)) (at : ℕ) (rest : List ℕ) → inOrder n (a ∷ ks) ≡ true → n ≤ length fs → usedBy n (a ∷ ks) ≤ length fs → length ks < 8
-    → drop at b ≡ renderActs fs (a ∷ ks) rest → Done (agentAt (listed (take n fs) ls) b at) (listed (take (usedBy n (a ∷ ks)) fs) (ls ++ ((a ∷ ks) ∷ []))) b rest
+      → drop at b ≡ renderActs fs (a ∷ ks) rest → Done (agentAt (listed (take n fs) ls) b at) (listed (take (usedBy n (a ∷ ks)) fs) (ls ++ ((a ∷ ks) ∷ []))) b rest
   agent-done ks n a ls at rest order front inside room e =
       let y : Sofar = sofar (take (usedBy n (a ∷ ks)) fs) (a ∷ ks) in
       let x : Listed = listed (take (usedBy n (a ∷ ks)) fs) (ls ++ ((a ∷ ks) ∷ [])) in
       done-then (separatorAt 32 b at) (λ _ p. andThen (actsAt 9 (sofar (take n fs) []) b p) (λ t q. Ok (listed (t .names) (ls ++ (t .acts ∷ [])), q))) tt x b (renderAct fs a ++ renderActs fs ks rest) rest
-        (sep-done 32 b at (renderAct fs a ++ renderActs fs ks rest) e)
-        (λ p f. done-then (actsAt 9 (sofar (take n fs) []) b p) (λ t q. Ok (listed (t .names) (ls ++ (t .acts ∷ [])), q)) y x b rest rest
-          (acts-done 9 ks n a [] p rest order front inside (omega arith) (omega arith) f) (λ q g. (q, refl, g)))
+      (sep-done 32 b at (renderAct fs a ++ renderActs fs ks rest) e)
+      (λ p f. done-then (actsAt 9 (sofar (take n fs) []) b p) (λ t q. Ok (listed (t .names) (ls ++ (t .acts ∷ [])), q)) y x b rest rest
+      (acts-done 9 ks n a [] p rest order front inside (omega arith) (omega arith) f) (λ q g. (q, refl, g)))
 
   head-agent-done : (n at : ℕ) (rest : List ℕ) → n < 4 → Blank rest → drop at b ≡ codes "agent" ++ rest → Done (headAt n b at) true b rest
   head-agent-done n at rest h k e =
@@ -238,8 +238,8 @@ module _ (fs : List (List ℕ)) (nm : Naming fs (length fs)) (few : length fs �
   agents-open m s x at rest d = d
 
   pub agents-done : (left : ℕ) (ls : List (List Act)) (n : ℕ) (ms : List (List Act)) (at : ℕ) (rest : List ℕ) → allInOrder n ls ≡ true → n ≤ length fs → usedByAll n ls ≤ length fs
-    → 1 ≤ length ms + length ls → length ms + length ls ≤ 4 → length ls < left → Blank rest → drop at b ≡ renderLines fs ls (codes "breach" ++ rest)
-    → Done (agentsAt left (listed (take n fs) ms) b at) (listed (take (usedByAll n ls) fs) (ms ++ ls)) b rest
+      → 1 ≤ length ms + length ls → length ms + length ls ≤ 4 → length ls < left → Blank rest → drop at b ≡ renderLines fs ls (codes "breach" ++ rest)
+      → Done (agentsAt left (listed (take n fs) ms) b at) (listed (take (usedByAll n ls) fs) (ms ++ ls)) b rest
   agents-done zero ls n ms at rest order front inside some room less blank e = absurd (omega arith)
   agents-done (suc left) [] n ms at rest order front inside some room less blank e =
       let s : Listed = listed (take n fs) ms in
@@ -259,11 +259,11 @@ module _ (fs : List (List ℕ)) (nm : Naming fs (length fs)) (few : length fs �
       let long : length (ms ++ ((a ∷ ks) ∷ [])) ≡ length ms + 1 = length-append ms ((a ∷ ks) ∷ []) in
       let tail : List ℕ = renderLines fs ls (codes "breach" ++ rest) in
       agents-open left s x at rest
-        (done-then (headAt (length ms) b at) (afterHead left s) true x b (renderActs fs (a ∷ ks) tail) rest (head-agent-done (length ms) at (renderActs fs (a ∷ ks) tail) (omega arith) refl e)
-          (λ p f. done-then (agentAt s b p) (λ t q. agentsAt left t b q) y x b tail rest (agent-done ks n a ms p tail (o2 .0) front next (omega arith) f)
-            (λ q g.
-              let d = agents-done left ls (usedBy n (a ∷ ks)) (ms ++ ((a ∷ ks) ∷ [])) q rest (o2 .1) next inside (omega arith) (omega arith) (omega arith) blank g in
-              (d .0, d .1 ∙ ap (λ l. Ok (listed (take (usedByAll n ((a ∷ ks) ∷ ls)) fs) l, d .0)) (append-assoc ms ((a ∷ ks) ∷ []) ls), d .2))))
+      (done-then (headAt (length ms) b at) (afterHead left s) true x b (renderActs fs (a ∷ ks) tail) rest (head-agent-done (length ms) at (renderActs fs (a ∷ ks) tail) (omega arith) refl e)
+      (λ p f. done-then (agentAt s b p) (λ t q. agentsAt left t b q) y x b tail rest (agent-done ks n a ms p tail (o2 .0) front next (omega arith) f)
+      (λ q g.
+      let d = agents-done left ls (usedBy n (a ∷ ks)) (ms ++ ((a ∷ ks) ∷ [])) q rest (o2 .1) next inside (omega arith) (omega arith) (omega arith) blank g in
+      (d .0, d .1 ∙ ap (λ l. Ok (listed (take (usedByAll n ((a ∷ ks) ∷ ls)) fs) l, d .0)) (append-assoc ms ((a ∷ ks) ∷ []) ls), d .2))))
 
   -- ---- the breach line
   pub token-done : (k at : ℕ) (rest : List ℕ) → k < length fs → Blank rest → drop at b ≡ getD fs k [] ++ rest → Done (tokenAt fs b at) k b rest
@@ -279,8 +279,8 @@ module _ (fs : List (List ℕ)) (nm : Naming fs (length fs)) (few : length fs �
   pub breach-done : (k at : ℕ) (rest : List ℕ) → k < length fs → drop at b ≡ spaced (getD fs k []) (10 ∷ rest) → Done (breachAt fs b at) k b rest
   breach-done k at rest h e =
       done-then (separatorAt 32 b at) (λ _ p. andThen (tokenAt fs b p) (λ j q. andThen (separatorAt 10 b q) (λ _ r. Ok (j, r)))) tt k b (getD fs k [] ++ (10 ∷ rest)) rest (sep-done 32 b at (getD fs k [] ++ (10 ∷ rest)) e)
-        (λ p f. done-then (tokenAt fs b p) (λ j q. andThen (separatorAt 10 b q) (λ _ r. Ok (j, r))) k k b (10 ∷ rest) rest (token-done k p (10 ∷ rest) h refl f)
-          (λ q g. done-then (separatorAt 10 b q) (λ _ r. Ok (k, r)) tt k b rest rest (sep-done 10 b q rest g) (λ r i. (r, refl, i))))
+      (λ p f. done-then (tokenAt fs b p) (λ j q. andThen (separatorAt 10 b q) (λ _ r. Ok (j, r))) k k b (10 ∷ rest) rest (token-done k p (10 ∷ rest) h refl f)
+      (λ q g. done-then (separatorAt 10 b q) (λ _ r. Ok (k, r)) tt k b rest rest (sep-done 10 b q rest g) (λ r i. (r, refl, i))))
 
 -- ---- the program
 pub program-done : (p : Program) (ns : List (List ℕ)) (b : List ℕ) (at : ℕ) (rest : List ℕ) → formed p ≡ true → Naming ns (usedByAll 0 (p .lines)) → drop at b ≡ renderProgram ns p rest → Done (programAt b at) (p, ns) b rest
@@ -300,10 +300,10 @@ program-done p ns b at rest well nm e =
     let s : Listed = listed ns (p .lines) in
     let tail : List ℕ = spaced (getD ns (p .breach) []) (10 ∷ rest) in
     let d = λ (q : ℕ) (f : drop q b ≡ renderLines ns (p .lines) (codes "breach" ++ tail)).
-      agents-done ns own (omega arith) b 5 (p .lines) 0 [] q tail (o3 .0) (omega arith) (omega arith) (omega arith) (omega arith) (omega arith) refl f in
+    agents-done ns own (omega arith) b 5 (p .lines) 0 [] q tail (o3 .0) (omega arith) (omega arith) (omega arith) (omega arith) (omega arith) refl f in
     done-then (separatorAt 10 b at) (λ _ q. andThen (agentsAt 5 (listed [] []) b q) (λ s r. andThen (breachAt (s .names) b r) (λ k t. Ok ((record { lines = s .lines; breach = k }, s .names), t)))) tt (p, ns) b
-      (renderLines ns (p .lines) (codes "breach" ++ tail)) rest (sep-done 10 b at (renderLines ns (p .lines) (codes "breach" ++ tail)) e)
-      (λ q f. done-then (agentsAt 5 (listed [] []) b q) (λ s r. andThen (breachAt (s .names) b r) (λ k t. Ok ((record { lines = s .lines; breach = k }, s .names), t))) s (p, ns) b tail rest
-        (subst (λ l. Done (agentsAt 5 (listed [] []) b q) (listed l (p .lines)) b tail) all (d q f))
-        (λ r g. done-then (breachAt ns b r) (λ k t. Ok ((record { lines = p .lines; breach = k }, ns), t)) (p .breach) (p, ns) b rest rest (breach-done ns own (omega arith) b (p .breach) r rest (omega arith) g)
-          (λ t h. (t, refl, h))))
+    (renderLines ns (p .lines) (codes "breach" ++ tail)) rest (sep-done 10 b at (renderLines ns (p .lines) (codes "breach" ++ tail)) e)
+    (λ q f. done-then (agentsAt 5 (listed [] []) b q) (λ s r. andThen (breachAt (s .names) b r) (λ k t. Ok ((record { lines = s .lines; breach = k }, s .names), t))) s (p, ns) b tail rest
+    (subst (λ l. Done (agentsAt 5 (listed [] []) b q) (listed l (p .lines)) b tail) all (d q f))
+    (λ r g. done-then (breachAt ns b r) (λ k t. Ok ((record { lines = p .lines; breach = k }, ns), t)) (p .breach) (p, ns) b rest rest (breach-done ns own (omega arith) b (p .breach) r rest (omega arith) g)
+    (λ t h. (t, refl, h))))

@@ -39,7 +39,7 @@ pub act-parts : (s : Sofar) (b : List ℕ) (at : ℕ) (z : Sofar × ℕ) → act
 act-parts s b at z e = go (wordAt b at) (kind-fits (textAt b at)) e
   where
     hit : (t : List ℕ) (p q : Bool) → leb 8 (length (s .acts)) ≡ p → leb 16 (indexOf (s .names) (drop 1 t)) ≡ q → (t ≡ textAt b at) × (isInstruction (textAt b at) ≡ true)
-      → cond p (Err (OutOfRange at)) (cond q (Err (OutOfRange at)) (Ok (withAct s t, at + runAt b at))) ≡ Ok z → ActRead s b at z
+        → cond p (Err (OutOfRange at)) (cond q (Err (OutOfRange at)) (Ok (withAct s t, at + runAt b at))) ≡ Ok z → ActRead s b at z
     hit t true q e1 e2 f h = no h
     hit t false true e1 e2 f h = no h
     hit t false false e1 e2 f h =
@@ -50,7 +50,7 @@ act-parts s b at z e = go (wordAt b at) (kind-fits (textAt b at)) e
           few = leb-false 8 _ e1;
           room = leb-false 16 _ e2;
           split = word-split b at ∙ (λ i. sym (f .0) i ++ drop (next i) b);
-          is = ap (λ v. v .0) (inj h)
+          is = ap (λ v. v .0) (inj h);
         }
 
     go : (k : Option Kind) → Fits k (textAt b at) → actIn s b at k ≡ Ok z → ActRead s b at z
@@ -120,7 +120,7 @@ module _ (s : Sofar) (b : List ℕ) (at : ℕ) (y : Sofar × ℕ) (r : ActRead s
   act-written fs x =
       let n = next-count in
       let here : getD fs (act .token) [] ≡ drop 1 (r .word) =
-        x .same (act .token) (omega arith) ∙ ap (λ l. getD l (act .token) []) (sym names-is) ∙ step .here in
+      x .same (act .token) (omega arith) ∙ ap (λ l. getD l (act .token) []) (sym names-is) ∙ step .here in
       ap (λ l. 32 ∷ l) (r .split ∙ ap (λ l. l ++ drop (y .1) b) (act-text (r .word) (r .instructs) ∙ ap (λ l. getD (r .word) 0 0 ∷ l) (sym here)))
 
   pub acts-last : (z : Sofar × ℕ) → y .0 ≡ z .0 → drop (y .1) b ≡ 10 ∷ drop (z .1) b → LineRead s b at z
@@ -136,7 +136,7 @@ module _ (s : Sofar) (b : List ℕ) (at : ℕ) (y : Sofar × ℕ) (r : ActRead s
         extends = next-extends;
         count = next-count;
         order = act-order [] refl;
-        text = λ fs x. act-written fs x ∙ ap (spaced (renderAct fs act)) g
+        text = λ fs x. act-written fs x ∙ ap (spaced (renderAct fs act)) g;
       }) (z .1) f
 
   pub acts-more : (z : Sofar × ℕ) (q : ℕ) → drop (y .1) b ≡ 32 ∷ drop q b → LineRead (y .0) b q z → LineRead s b at z
@@ -150,7 +150,7 @@ module _ (s : Sofar) (b : List ℕ) (at : ℕ) (y : Sofar × ℕ) (r : ActRead s
     extends = extends-trans _ _ _ next-extends (m .extends);
     count = m .count ∙ ap (λ n. usedBy n (m .acts)) next-count;
     order = act-order (m .acts) (subst (λ n. inOrder n (m .acts) ≡ true) next-count (m .order));
-    text = λ fs x. act-written fs (extends-trans _ _ _ (m .extends) x) ∙ ap (spaced (renderAct fs act)) (f ∙ m .text fs x)
+    text = λ fs x. act-written fs (extends-trans _ _ _ (m .extends) x) ∙ ap (spaced (renderAct fs act)) (f ∙ m .text fs x);
   }
 
 pub space-split : (b : List ℕ) (at : ℕ) → spaceAt b at ≡ true → drop at b ≡ 32 ∷ drop (at + 1) b
@@ -177,7 +177,7 @@ acts-parts (suc m) s b at z nm sm e =
     go (t .0) r (acts-parts m (t .0 .0) b (t .0 .1 + 1) z (next-naming s b at (t .0) r nm sm) (next-small s b at (t .0) r nm sm)) (spaceAt b (t .0 .1)) refl (t .2)
   where
     go : (y : Sofar × ℕ) (r : ActRead s b at y) → (actsAt m (y .0) b (y .1 + 1) ≡ Ok z → LineRead (y .0) b (y .1 + 1) z) → (k : Bool) → spaceAt b (y .1) ≡ k
-      → cond k (actsAt m (y .0) b (y .1 + 1)) (andThen (separatorAt 10 b (y .1)) (λ _ q. Ok (y .0, q))) ≡ Ok z → LineRead s b at z
+        → cond k (actsAt m (y .0) b (y .1 + 1)) (andThen (separatorAt 10 b (y .1)) (λ _ q. Ok (y .0, q))) ≡ Ok z → LineRead s b at z
     go y r more true k h = acts-more s b at y r nm sm z (y .1 + 1) (space-split b (y .1) k) (more h)
     go y r more false k h =
         let q = parts-then (separatorAt 10 b (y .1)) (λ _ q. Ok (y .0, q)) z h in
@@ -200,7 +200,7 @@ head-parts n b at z e = go (wordAt b at) (kind-fits (textAt b at)) e
     P v = Headed n b at (v .0) (v .1)
 
     hit : (u : List ℕ) (s t p q : Bool) → sameBytes u (codes "agent") ≡ s → sameBytes u (codes "breach") ≡ t → leb 4 n ≡ p → leb 1 n ≡ q → u ≡ textAt b at
-      → cond s (cond p (Err (OutOfRange at)) (Ok (true, at + runAt b at))) (cond (t && q) (Ok (false, at + runAt b at)) (Err (Misplaced at))) ≡ Ok z → Headed n b at (z .0) (z .1)
+        → cond s (cond p (Err (OutOfRange at)) (Ok (true, at + runAt b at))) (cond (t && q) (Ok (false, at + runAt b at)) (Err (Misplaced at))) ≡ Ok z → Headed n b at (z .0) (z .1)
     hit u true t true q e1 e2 e3 e4 f h = no h
     hit u true t false q e1 e2 e3 e4 f h = subst (λ (v : Bool × ℕ). Headed n b at (v .0) (v .1)) (inj h) (leb-false 4 n e3, split u (codes "agent") e1 f)
     hit u false true p true e1 e2 e3 e4 f h = subst (λ (v : Bool × ℕ). Headed n b at (v .0) (v .1)) (inj h) (leb-true 1 n e4, split u (codes "breach") e2 f)
@@ -245,7 +245,7 @@ agent-parts s b at y nm sm e =
       from = p .0 .1;
       space = sep-parts 32 b at (p .0) (p .1);
       line = subst (λ n. LineRead (sofar (s .names) []) b (p .0 .1) (q .0 .0, n)) next l;
-      is = ap (λ v. v .0) (inj (q .2))
+      is = ap (λ v. v .0) (inj (q .2));
     }
 
 module _ (s : Listed) (b : List ℕ) (at q : ℕ) (y : Listed × ℕ) (room : length (s .lines) < 4) (word : drop at b ≡ codes "agent" ++ drop q b) (r : AgentRead s b q y) where
@@ -281,7 +281,7 @@ module _ (s : Listed) (b : List ℕ) (at q : ℕ) (y : Listed × ℕ) (room : le
   agent-order ls h =
       let some : 1 ≤ length (r .read .acts) = subst (λ l. 1 ≤ length l) acts-all (r .line .some) in
       and-from _ _ (and-from _ _ (le-leb _ _ some) (le-leb _ _ (r .line .few)))
-        (and-from _ _ (subst (λ l. inOrder (length (s .names)) l ≡ true) acts-all (r .line .order)) (subst (λ n. allInOrder n ls ≡ true) agent-count h))
+      (and-from _ _ (subst (λ l. inOrder (length (s .names)) l ≡ true) acts-all (r .line .order)) (subst (λ n. allInOrder n ls ≡ true) agent-count h))
 
   agent-written : (fs : List (List ℕ)) → Extends (y .0 .names) fs → drop at b ≡ codes "agent" ++ renderActs fs (r .read .acts) (drop (y .1) b)
   agent-written fs x =
@@ -298,23 +298,23 @@ module _ (s : Listed) (b : List ℕ) (at q : ℕ) (y : Listed × ℕ) (room : le
     extends = extends-trans _ _ _ agent-extends (m .extends);
     count = m .count ∙ ap (λ n. usedByAll n (m .lines)) agent-count;
     order = agent-order (m .lines) (m .order);
-    text = λ fs x. agent-written fs (extends-trans _ _ _ (m .extends) x) ∙ ap (λ l. codes "agent" ++ renderActs fs (r .read .acts) l) (m .text fs x)
+    text = λ fs x. agent-written fs (extends-trans _ _ _ (m .extends) x) ∙ ap (λ l. codes "agent" ++ renderActs fs (r .read .acts) l) (m .text fs x);
   }
 
 agents-last : (s : Listed) (b : List ℕ) (at q : ℕ) (z : Listed × ℕ) → Naming (s .names) (length (s .names)) → length (s .names) ≤ 16 → length (s .lines) ≤ 4
-  → (1 ≤ length (s .lines)) × (drop at b ≡ codes "breach" ++ drop q b) → (s, q) ≡ z → AgentsRead s b at z
+    → (1 ≤ length (s .lines)) × (drop at b ≡ codes "breach" ++ drop q b) → (s, q) ≡ z → AgentsRead s b at z
 agents-last s b at q z nm sm few h e = subst (AgentsRead s b at) e (record {
-    lines = [];
-    is = sym (append-nil (s .lines));
-    some = h .0;
-    few = few;
-    naming = nm;
-    small = sm;
-    extends = extends-self (s .names);
-    count = refl;
-    order = refl;
-    text = λ fs x. h .1
-  })
+  lines = [];
+  is = sym (append-nil (s .lines));
+  some = h .0;
+  few = few;
+  naming = nm;
+  small = sm;
+  extends = extends-self (s .names);
+  count = refl;
+  order = refl;
+  text = λ fs x. h .1;
+})
 
 abbrev afterHead : ℕ → Listed → List ℕ → Bool → ℕ → Got Listed
 afterHead m s b agent p = cond agent (andThen (agentAt s b p) (λ t q. agentsAt m t b q)) (Ok (s, p))
@@ -334,14 +334,14 @@ agents-parts (suc m) s b at z nm sm few e =
     go (λ u p. agents-parts m u b p z) (t .0 .0) (t .0 .1) (head-parts (length (s .lines)) b at (t .0) (t .1)) (t .2)
   where
     go : ((u : Listed) (p : ℕ) → Naming (u .names) (length (u .names)) → length (u .names) ≤ 16 → length (u .lines) ≤ 4 → agentsAt m u b p ≡ Ok z → AgentsRead u b p z)
-      → (k : Bool) (q : ℕ) → Headed (length (s .lines)) b at k q → cond k (andThen (agentAt s b q) (λ t p. agentsAt m t b p)) (Ok (s, q)) ≡ Ok z → AgentsRead s b at z
+        → (k : Bool) (q : ℕ) → Headed (length (s .lines)) b at k q → cond k (andThen (agentAt s b q) (λ t p. agentsAt m t b p)) (Ok (s, q)) ≡ Ok z → AgentsRead s b at z
     go more true q h e =
         let p = parts-then (agentAt s b q) (λ t p. agentsAt m t b p) z e in
         let r = agent-parts s b q (p .0) nm sm (p .1) in
         let l = agent-room s b at q (p .0) (h .0) (h .1) r in
         let room = h .0 in
         agents-more s b at q (p .0) (h .0) (h .1) r z
-          (more (p .0 .0) (p .0 .1) (agent-naming s b at q (p .0) (h .0) (h .1) r) (agent-small s b at q (p .0) (h .0) (h .1) r) (omega arith) (p .2))
+        (more (p .0 .0) (p .0 .1) (agent-naming s b at q (p .0) (h .0) (h .1) r) (agent-small s b at q (p .0) (h .0) (h .1) r) (omega arith) (p .2))
     go more false q h e = agents-last s b at q z nm sm few h (inj e)
 
 -- ---- the breach line
@@ -353,7 +353,7 @@ token-parts ns b at z e = go (wordAt b at) (kind-fits (textAt b at)) e
     hit u false s f h =
         let l = leb-false (length ns) (indexOf ns u) s in
         subst (λ (v : ℕ × ℕ). (v .0 < length ns) × (drop at b ≡ getD ns (v .0) [] ++ drop (v .1) b)) (inj h)
-          (l, word-split b at ∙ ap (λ w. w ++ drop (at + runAt b at) b) (sym f ∙ sym (index-found ns u l)))
+        (l, word-split b at ∙ ap (λ w. w ++ drop (at + runAt b at) b) (sym f ∙ sym (index-found ns u l)))
 
     go : (k : Option Kind) → Fits k (textAt b at) → tokenIn ns b at k ≡ Ok z → (z .0 < length ns) × (drop at b ≡ getD ns (z .0) [] ++ drop (z .1) b)
     go None f h = no h
@@ -369,7 +369,7 @@ breach-parts ns b at z e =
     let s3 = parts-then (separatorAt 10 b (s2 .0 .1)) (λ _ r. Ok (s2 .0 .0, r)) z (s2 .2) in
     let t = token-parts ns b (s1 .0 .1) (s2 .0) (s2 .1) in
     subst (λ (v : ℕ × ℕ). (v .0 < length ns) × (drop at b ≡ spaced (getD ns (v .0) []) (10 ∷ drop (v .1) b))) (inj (s3 .2))
-      (t .0, sep-parts 32 b at (s1 .0) (s1 .1) ∙ ap (λ l. 32 ∷ l) (t .1 ∙ ap (λ l. getD ns (s2 .0 .0) [] ++ l) (sep-parts 10 b (s2 .0 .1) (s3 .0) (s3 .1))))
+    (t .0, sep-parts 32 b at (s1 .0) (s1 .1) ∙ ap (λ l. 32 ∷ l) (t .1 ∙ ap (λ l. getD ns (s2 .0 .0) [] ++ l) (sep-parts 10 b (s2 .0 .1) (s3 .0) (s3 .1))))
 
 -- ---- the program
 no-names : Naming [] 0
@@ -394,10 +394,10 @@ module _ (b : List ℕ) (at : ℕ) (s : Listed × ℕ) (a : AgentsRead (listed [
       let small = a .small in
       let order : allInOrder 0 (s .0 .lines) ≡ true = subst (λ l. allInOrder 0 l ≡ true) (sym all-lines) (a .order) in
       and-from _ _ (and-from _ _ (le-leb 1 (length (s .0 .lines)) (a .some)) (le-leb (length (s .0 .lines)) 4 (a .few)))
-        (and-from _ _ order (and-from _ _ (le-leb (usedByAll 0 (s .0 .lines)) 16 (omega arith)) (lt-ltb k (usedByAll 0 (s .0 .lines)) (omega arith))))
+      (and-from _ _ order (and-from _ _ (le-leb (usedByAll 0 (s .0 .lines)) 16 (omega arith)) (lt-ltb k (usedByAll 0 (s .0 .lines)) (omega arith))))
 
 pub program-formed : (ns : List (List ℕ)) → ns ≡ [] → (b : List ℕ) (at : ℕ) (s : Listed) (q : ℕ) → Ok (s, q) ≡ agentsAt 5 (listed ns []) b at
-  → (c : List ℕ) (p k r : ℕ) → Ok (k, r) ≡ breachAt (s .names) c p → formed (record { lines = s .lines; breach = k }) ≡ true
+    → (c : List ℕ) (p k r : ℕ) → Ok (k, r) ≡ breachAt (s .names) c p → formed (record { lines = s .lines; breach = k }) ≡ true
 program-formed ns e b at s q h c p k r g =
     let a = agents-parts 5 (listed [] []) b at (s, q) no-names (omega arith) (omega arith) (ap (λ l. agentsAt 5 (listed l []) b at) (sym e) ∙ sym h) in
     well-formed b at (s, q) a k (breach-parts (s .names) c p (k, r) (sym g) .0)
@@ -415,5 +415,5 @@ program-parts b at z e =
       well = well-formed b (s1 .0 .1) (s2 .0) a (s3 .0 .0) (t .0);
       naming = subst (Naming names) (names-count b (s1 .0 .1) (s2 .0) a) (a .naming);
       text = sep-parts 10 b at (s1 .0) (s1 .1) ∙ ap (λ l. 10 ∷ l) (a .text names (extends-self names)
-        ∙ (λ i. renderLines names (sym all i) (codes "breach" ++ t .1 i)))
+          ∙ (λ i. renderLines names (sym all i) (codes "breach" ++ t .1 i)));
     })

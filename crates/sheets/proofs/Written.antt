@@ -68,9 +68,9 @@ spaced-parts low high b at z few e =
 docket-done : (n : ℕ) (b : List ℕ) (at : ℕ) (rest : List ℕ) → Between 1 9999 n → drop at b ≡ codes "docket" ++ spaced (decimal n) (10 ∷ rest) → Done (docketAt b at) n b rest
 docket-done n b at rest h e =
     done-then _ _ tt n b _ rest (keyword-done (codes "docket") b at _ refl refl refl e) (λ p f.
-      done-then _ _ tt n b _ rest (sep-done 32 b p _ f) (λ q g.
-        done-then _ _ n n b _ rest (number-done 1 9999 n b q (10 ∷ rest) (omega arith) (omega arith) h refl g) (λ r i.
-          done-then _ _ tt n b _ rest (sep-done 10 b r rest i) (λ s j. (s, refl, j)))))
+    done-then _ _ tt n b _ rest (sep-done 32 b p _ f) (λ q g.
+    done-then _ _ n n b _ rest (number-done 1 9999 n b q (10 ∷ rest) (omega arith) (omega arith) h refl g) (λ r i.
+    done-then _ _ tt n b _ rest (sep-done 10 b r rest i) (λ s j. (s, refl, j)))))
 
 docket-parts : (b : List ℕ) (at : ℕ) (z : ℕ × ℕ) → docketAt b at ≡ Ok z → Between 1 9999 (z .0) × (drop at b ≡ codes "docket" ++ spaced (decimal (z .0)) (10 ∷ drop (z .1) b))
 docket-parts b at z e =
@@ -80,22 +80,21 @@ docket-parts b at z e =
     let s4 = parts-then (separatorAt 10 b (s3 .0 .1)) _ z (s3 .2) in
     let n = number-parts 1 9999 b (s2 .0 .1) (s3 .0) (omega arith) (s3 .1) in
     let value : s3 .0 .0 ≡ z .0 = ap (λ v. v .0) (inj (s4 .2)) in
-    let next : s4 .0 .1 ≡ z .1 = ap (λ v. v .1) (inj (s4 .2)) in
-    (
+    let next : s4 .0 .1 ≡ z .1 = ap (λ v. v .1) (inj (s4 .2)) in (
       subst (Between 1 9999) value (n .0),
       keyword-parts (codes "docket") b at (s1 .0) (s1 .1)
-      ∙ ap (λ l. codes "docket" ++ l) (sep-parts 32 b _ (s2 .0) (s2 .1) ∙ ap (λ l. 32 ∷ l) (n .1 ∙ ap (λ l. decimal (s3 .0 .0) ++ l) (sep-parts 10 b _ (s4 .0) (s4 .1))))
-      ∙ (λ i. codes "docket" ++ spaced (decimal (value i)) (10 ∷ drop (next i) b)),
+          ∙ ap (λ l. codes "docket" ++ l) (sep-parts 32 b _ (s2 .0) (s2 .1) ∙ ap (λ l. 32 ∷ l) (n .1 ∙ ap (λ l. decimal (s3 .0 .0) ++ l) (sep-parts 10 b _ (s4 .0) (s4 .1))))
+          ∙ (λ i. codes "docket" ++ spaced (decimal (value i)) (10 ∷ drop (next i) b)),
     )
 
 shake-done : (s : Shake) (b : List ℕ) (at : ℕ) (rest : List ℕ) → WellShake s → drop at b ≡ renderShake s rest → Done (shakeAt b at) s b rest
 shake-done s b at rest h e =
     done-then _ _ (s .initiators) s b _ rest (spaced-done 1 3 _ b at _ (omega arith) (omega arith) (h .0) refl e) (λ p f.
-      done-then _ _ (s .responders) s b _ rest (spaced-done 1 3 _ b p _ (omega arith) (omega arith) (h .1) refl f) (λ q g.
-        done-then _ _ (s .capacity) s b _ rest (spaced-done 1 4 _ b q _ (omega arith) (omega arith) (h .2) refl g) (λ r i.
-          done-then _ _ tt s b _ rest (sep-done 32 b r _ i) (λ t j.
-            done-then _ _ (s .lowe) s b _ rest (either-done (s .lowe) b t (10 ∷ rest) refl j) (λ u k.
-              done-then _ _ tt s b _ rest (sep-done 10 b u rest k) (λ v m. (v, refl, m)))))))
+    done-then _ _ (s .responders) s b _ rest (spaced-done 1 3 _ b p _ (omega arith) (omega arith) (h .1) refl f) (λ q g.
+    done-then _ _ (s .capacity) s b _ rest (spaced-done 1 4 _ b q _ (omega arith) (omega arith) (h .2) refl g) (λ r i.
+    done-then _ _ tt s b _ rest (sep-done 32 b r _ i) (λ t j.
+    done-then _ _ (s .lowe) s b _ rest (either-done (s .lowe) b t (10 ∷ rest) refl j) (λ u k.
+    done-then _ _ tt s b _ rest (sep-done 10 b u rest k) (λ v m. (v, refl, m)))))))
 
 shake-parts : (b : List ℕ) (at : ℕ) (z : Shake × ℕ) → shakeAt b at ≡ Ok z → WellShake (z .0) × (drop at b ≡ renderShake (z .0) (drop (z .1) b))
 shake-parts b at z e =
@@ -113,9 +112,8 @@ shake-parts b at z e =
     subst P same (
       (n1 .0, n2 .0, n3 .0),
       n1 .1 ∙ ap (spaced (decimal (s1 .0 .0))) (n2 .1 ∙ ap (spaced (decimal (s2 .0 .0))) (n3 .1 ∙ ap (spaced (decimal (s3 .0 .0)))
-        (sep-parts 32 b _ (s4 .0) (s4 .1) ∙ ap (λ l. 32 ∷ l) (either-parts b _ (s5 .0) (s5 .1) ∙ ap (λ l. lowe-word (s5 .0 .0) ++ l) (sep-parts 10 b _ (s6 .0) (s6 .1)))))),
+          (sep-parts 32 b _ (s4 .0) (s4 .1) ∙ ap (λ l. 32 ∷ l) (either-parts b _ (s5 .0) (s5 .1) ∙ ap (λ l. lowe-word (s5 .0 .0) ++ l) (sep-parts 10 b _ (s6 .0) (s6 .1)))))),
     )
-
 
 -- what a plan's text says
 abbrev Planned : List ℕ → ℕ → (Plan × List (List ℕ)) × ℕ → Type 0
@@ -138,7 +136,7 @@ plan-parts b at z e = go (wordAt b at) (kind-fits (textAt b at)) e
     text u w s f = word-split b at ∙ ap (λ l. l ++ drop (at + runAt b at) b) (sym f ∙ sameBytes-decides u w .0 s)
 
     hit : (u : List ℕ) (s t : Bool) → sameBytes u (codes "handshake") ≡ s → sameBytes u (codes "tokens") ≡ t → u ≡ textAt b at
-      → cond s (andThen (shakeAt b (at + runAt b at)) (λ h p. Ok ((shake h, []), p))) (cond t (andThen (programAt b (at + runAt b at)) (λ n p. Ok ((tokens (n .0), n .1), p))) (Err (Misplaced at))) ≡ Ok z → Planned b at z
+        → cond s (andThen (shakeAt b (at + runAt b at)) (λ h p. Ok ((shake h, []), p))) (cond t (andThen (programAt b (at + runAt b at)) (λ n p. Ok ((tokens (n .0), n .1), p))) (Err (Misplaced at))) ≡ Ok z → Planned b at z
     hit u true t e1 e2 f h =
         let q = parts-then (shakeAt b (at + runAt b at)) (λ v p. Ok ((shake v, []), p)) z h in
         let m = shake-parts b (at + runAt b at) (q .0) (q .1) in
@@ -175,8 +173,8 @@ Sheeted b v = Well (v .0) × Names-for (v .0 .plan) (v .1) × (b ≡ render (v .
 sheet-done : (d : Sheet) (ns : List (List ℕ)) (b : List ℕ) → Well d → Names-for (d .plan) ns → b ≡ render d ns → Done (sheetAt b 0) (d, ns) b []
 sheet-done d ns b h k e =
     done-then _ _ (d .number) (d, ns) b _ [] (docket-done (d .number) b 0 _ (h .0) e) (λ p f.
-      done-then _ _ (d .plan, ns) (d, ns) b _ [] (plan-done (d .plan) ns b p [] (h .1) k f) (λ q g.
-        done-then _ _ tt (d, ns) b _ [] (end-done b q g) (λ r i. (r, refl, i))))
+    done-then _ _ (d .plan, ns) (d, ns) b _ [] (plan-done (d .plan) ns b p [] (h .1) k f) (λ q g.
+    done-then _ _ tt (d, ns) b _ [] (end-done b q g) (λ r i. (r, refl, i))))
 
 sheet-parts : (b : List ℕ) (z : (Sheet × List (List ℕ)) × ℕ) → sheetAt b 0 ≡ Ok z → Sheeted b (z .0)
 sheet-parts b z e =
@@ -187,7 +185,7 @@ sheet-parts b z e =
     let m = plan-parts b (s1 .0 .1) (s2 .0) (s2 .1) in
     let none = end-parts b (s2 .0 .1) (s3 .0) (s3 .1) in
     subst (λ (v : (Sheet × List (List ℕ)) × ℕ). Sheeted b (v .0)) (inj (s3 .2))
-      ((n .0, m .0), m .1, n .1 ∙ ap (λ l. codes "docket" ++ spaced (decimal (s1 .0 .0)) (10 ∷ l)) (m .2 ∙ ap (renderPlan (s2 .0 .0 .0) (s2 .0 .0 .1)) none))
+    ((n .0, m .0), m .1, n .1 ∙ ap (λ l. codes "docket" ++ spaced (decimal (s1 .0 .0)) (10 ∷ l)) (m .2 ∙ ap (renderPlan (s2 .0 .0 .0) (s2 .0 .0 .1)) none))
 
 only-parts : {X : Type 0} (g : Got X) (x : X) → only g ≡ Ok x → (p : X × ℕ) × (g ≡ Ok p) × (p .0 ≡ x)
 only-parts (Ok p) x e = (p, refl, inj e)
@@ -213,10 +211,10 @@ unnamed-parts (Err e′) d e = no e
 
 pub read-is-written : Read-is-written
 read-is-written = record {
-    text = λ b d e. let u = unnamed-parts (namedOf b) d e in let s = named-parts b (d, u .0) (u .1) in record { well = s .0; names = u .0; fit = s .1; text = s .2 };
-    read = λ b d t. ap unnamed (named-done d (t .names) b (t .well) (t .fit) (t .text));
-    names = λ b d ns e. let s = named-parts b (d, ns) e in (s .1, s .2)
-  }
+  text = λ b d e. let u = unnamed-parts (namedOf b) d e in let s = named-parts b (d, u .0) (u .1) in record { well = s .0; names = u .0; fit = s .1; text = s .2 };
+  read = λ b d t. ap unnamed (named-done d (t .names) b (t .well) (t .fit) (t .text));
+  names = λ b d ns e. let s = named-parts b (d, ns) e in (s .1, s .2);
+}
 
 pub texts-apart : Texts-apart
 texts-apart b d e s t = inj (sym (read-is-written .read b d s) ∙ read-is-written .read b e t)

@@ -1,5 +1,8 @@
 -- The number and the place that a fault returns. Assumes nothing.
+use mathlib.Core.List.{List, _++_}
 use Prim.Native.Nat.{ℕ}
+use lib.Chars.{codes}
+use Rattle.std.specs.Written.{decimal}
 use Rattle.sheets.specs.declared.fault.SheetFault.{SheetFault}
 use Rattle.sheets.specs.declared.fault.SheetFault.the-variants.{TooLong, Misplaced, OutOfRange, Ended}
 
@@ -14,3 +17,6 @@ placeOf TooLong = 2048
 placeOf (Misplaced p) = p
 placeOf (OutOfRange p) = p
 placeOf (Ended p) = p
+
+abbrev pub faultLine : SheetFault → List ℕ
+faultLine e = codes "fault " ++ (decimal (numberOf e) ++ (codes " at " ++ decimal (placeOf e)))

@@ -4,3 +4,4 @@ pub mod Words
 pub mod Names
 pub mod Reads
 pub mod Rendered
+pub mod Examples

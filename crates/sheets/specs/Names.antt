@@ -3,9 +3,11 @@ use mathlib.Core.Bool.{Bool, true, false, cond}
 use mathlib.Core.List.{List, [], _∷_, _++_}
 use Prim.Native.Nat.{ℕ, _+_}
 use lib.Dec.{leb, ltb}
-use lib.ListN.{length, take}
+use lib.ListN.{length, getD, take}
 use denote.Ref.{RefT}
 use Rattle.std.specs.shelf.Text.{sameBytes}
+use Rattle.std.specs.declared.option.Option.{Option}
+use Rattle.std.specs.declared.option.Option.the-variants.{Some, None}
 use Rattle.sheets.specs.declared.names.Names.{Names}
 
 abbrev pub texts : List (RefT (List ℕ)) → List (List ℕ)
@@ -22,3 +24,6 @@ indexOf (n ∷ ns) w = cond (sameBytes n w) 0 (1 + indexOf ns w)
 
 abbrev pub withName : List (List ℕ) → List ℕ → List (List ℕ)
 withName ns w = cond (ltb (indexOf ns w) (length ns)) ns (ns ++ (w ∷ []))
+
+abbrev pub textOf : List (List ℕ) → ℕ → Option (List ℕ)
+textOf ns k = cond (ltb k (length ns)) (Some (getD ns k [])) None

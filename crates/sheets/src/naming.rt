@@ -7,7 +7,8 @@ ghost use lib.Dec.{leb};
 ghost use lib.ListN.{length, getD};
 ghost use Rattle.std.specs.shelf.Text.{sameBytes};
 ghost use Rattle.std.specs.declared.option.Option.the-variants.{Some, None};
-ghost use Rattle.sheets.specs.Names.{texts as textsOf, namesOf, indexOf, withName};
+ghost use Rattle.std.specs.Options.{mapped};
+ghost use Rattle.sheets.specs.Names.{texts as textsOf, namesOf, indexOf, withName, textOf};
 use crate::names::Names;
 use crate::words::same;
 
@@ -23,7 +24,8 @@ fn index(texts: &[&[u8]], text: &[u8]) -> usize
 }
 
 impl<'a> Names<'a> {
-    pub(crate) fn new() -> Names<'a>
+    // No names.
+    pub fn new() -> Names<'a>
         ensures { λ r. ⌜ namesOf r ≡ [] ⌝ }
     {
         Names {
@@ -58,5 +60,16 @@ impl<'a> Names<'a> {
         self.texts[self.count] = text;
         self.count += 1;
         Some(k)
+    }
+
+    // The name of a token, if there is one of that number.
+    pub fn text(&self, token: usize) -> Option<&'a [u8]>
+        ensures { λ r. ⌜ mapped now r ≡ textOf (namesOf (now (self .entry))) token ⌝ }
+    {
+        if token < self.count {
+            Some(self.texts[token])
+        } else {
+            None
+        }
     }
 }

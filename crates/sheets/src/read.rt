@@ -3,6 +3,7 @@ ghost use mathlib.Core.Path.{_≡_};
 ghost use Rattle.sheets.specs.Names.{namesOf};
 ghost use Rattle.sheets.specs.Reads.{namedOf, namesAfter, unnamed, readOf, sheetRead};
 ghost use Rattle.sheets.specs.Rendered.{Read-is-written, Texts-apart, Every-docket-written, Faults-placed};
+ghost use Rattle.sheets.specs.Examples.{Examples};
 use crate::arrangement::Docket;
 use crate::fault::SheetFault;
 use crate::names::Names;
@@ -35,6 +36,7 @@ pub fn read(sheet: &[u8]) -> Result<Docket, SheetFault>
     ensures apart { λ _. ⌜ Texts-apart ⌝ }
     ensures described { λ _. ⌜ Every-docket-written ⌝ }
     ensures placed { λ _. ⌜ Faults-placed ⌝ }
+    ensures examples { λ _. ⌜ Examples ⌝ }
 {
     let mut names = Names::new();
     read_named(sheet, &mut names)
