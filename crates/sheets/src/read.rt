@@ -9,12 +9,15 @@ use crate::fault::SheetFault;
 use crate::names::Names;
 use crate::reader::Reader;
 
+// No sheet has more bytes.
+const LONGEST: usize = 2048;
+
 // The docket that a sheet describes; the names of its tokens go to `names`, which stay as they were where the sheet is refused.
 pub fn read_named<'a>(sheet: &'a [u8], names: &mut Names<'a>) -> Result<Docket, SheetFault>
     ensures reads { λ r. ⌜ sheetRead r ≡ unnamed (namedOf (now (sheet .entry))) ⌝ }
     ensures names { λ r. ⌜ namesOf (now (names .exit)) ≡ namesAfter (namedOf (now (sheet .entry))) (namesOf (now (names .entry))) ⌝ }
 {
-    if sheet.len() > 2048 {
+    if sheet.len() > LONGEST {
         return Err(SheetFault::TooLong);
     }
     let mut reader = Reader { sheet, at: 0 };

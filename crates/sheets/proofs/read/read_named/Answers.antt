@@ -2,9 +2,9 @@ use borrow.Author.Needs.{needs}
 use Rattle.sheets.specs.Reads.{namedOf}
 use Rattle.sheets.proofs.read.read_named.Needs as need
 
-pub returns-then-sheet-gt2048 : need.returns-then-sheet-gt2048
+pub returns-then-sheet-gt-LONGEST : need.returns-then-sheet-gt-LONGEST
 unfolding namedOf
-returns-then-sheet-gt2048 c = search needs
+returns-then-sheet-gt-LONGEST c = search needs
 
 pub returns-in-Break-number : need.returns-in-Break-number
 unfolding namedOf
