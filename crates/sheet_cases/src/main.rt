@@ -64,3 +64,21 @@ fn main(rt: LibcRuntime) -> Result<(), AnyError> {
     }
     Ok(())
 }
+
+#[cfg(test)]
+mod tests {
+    use sheets::read::read;
+    use std::test::*;
+
+    // The sheet of examples/zero.sheet: the number of its docket is out of range.
+    #[test]
+    fn zero_is_out_of_range() -> Result<(), Fail> {
+        match read(b"docket 0\n") {
+            Ok(_) => Err(Fail::new("docket 0 was read")),
+            Err(fault) => {
+                check(fault.number() == 3)?;
+                check(fault.place() == 7)
+            }
+        }
+    }
+}

@@ -1,0 +1,2 @@
+mod Findings
+pub mod Shown

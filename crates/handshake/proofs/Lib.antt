@@ -1,0 +1,12 @@
+pub mod Rising
+pub mod Scans
+pub mod Labels
+pub mod Ones
+pub mod Compared
+pub mod Coded
+pub mod Reading
+pub mod Views
+pub mod Taken
+pub mod Exact
+pub mod Attacked
+pub mod Breach

@@ -1,0 +1,13 @@
+pub mod Places
+pub mod Messages
+pub mod Receives
+pub mod Labels
+pub mod Lawful
+pub mod Steps
+pub mod Words
+pub mod States
+pub mod Reads
+pub mod Known
+pub mod Protocol
+pub mod Attack
+pub mod laws

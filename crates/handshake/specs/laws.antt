@@ -1,0 +1,11 @@
+pub mod Places
+pub mod Agents
+pub mod Shapes
+pub mod Lawful
+pub mod Messages
+pub mod Stays
+pub mod Turns
+pub mod Steps
+pub mod Codes
+pub mod Model
+pub mod Reads

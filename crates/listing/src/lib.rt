@@ -1,0 +1,2 @@
+// The lines that a program prints of an examination.
+pub mod lines;
