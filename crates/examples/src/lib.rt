@@ -1,4 +1,6 @@
 // Worked examples, proved from the definitions that the other crates' contracts name.
+#![tactic(auto)]
+
 ghost use Rattle.std.specs.Prelude.{◌≡◌};
 ghost use Rattle.examples.specs.Examples.{WorkedExamplesHold};
 

@@ -1,4 +1,6 @@
 // The public-key handshake, with an intruder who owns the network, as a model.
+#![tactic(auto)]
+
 pub mod attack;
 pub mod coding;
 mod hand;

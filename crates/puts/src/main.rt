@@ -1,4 +1,6 @@
 // Puts 65,535 states in rising order in each table, and again, and prints how many comparisons a put makes.
+#![tactic(auto)]
+
 use mark::Mark;
 use meaning::table::{Placed, Table};
 use std::alloc::{AllocError, Global};

@@ -1,4 +1,6 @@
 // Reads sheets from standard input, each ended by `~`, and prints a line for each: what it describes, or its fault.
+#![tactic(auto)]
+
 use sheets::arrangement::{Arrangement, Handshake, Tokens};
 use sheets::line::Line;
 use sheets::read::read;

@@ -1,4 +1,6 @@
 // Sheets: text that describes a docket, read into its number and its arrangement.
+#![tactic(auto)]
+
 pub mod arrangement;
 pub mod fault;
 mod filling;

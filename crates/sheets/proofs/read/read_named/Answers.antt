@@ -6,17 +6,17 @@ pub returns-then-sheet-gt-LONGEST : goal.returns-then-sheet-gt-LONGEST
 unfolding named_of
 returns-then-sheet-gt-LONGEST c = search rules
 
-pub returns-in-err-number : goal.returns-in-err-number
+pub returns-in_err-number : goal.returns-in_err-number
 unfolding named_of
-returns-in-err-number c = search rules
+returns-in_err-number c = search rules
 
-pub returns-in-err-arrangement : goal.returns-in-err-arrangement
+pub returns-in_err-arrangement : goal.returns-in_err-arrangement
 unfolding named_of
-returns-in-err-arrangement c = search rules
+returns-in_err-arrangement c = search rules
 
-pub returns-in-err-end : goal.returns-in-err-end
+pub returns-in_err-end : goal.returns-in_err-end
 unfolding named_of
-returns-in-err-end c = search rules
+returns-in_err-end c = search rules
 
 pub returns : goal.returns
 unfolding named_of

@@ -8,13 +8,13 @@ returns-then-end-at c =
     let z : run_at c.args.sheet.now c.args.at ≡ 0 = omega arith in
     ap (λ n. take n (drop c.args.at c.args.sheet.now)) (sym z)
 
-pub slice-bounds-result-start : goal.slice-bounds-result-start
-slice-bounds-result-start c =
+pub slice_bounds-result-start : goal.slice_bounds-result-start
+slice_bounds-result-start c =
     let more : 0 < run_at c.args.sheet.now c.args.at = omega arith in
     omega (arith, run-within c.args.sheet.now c.args.at more)
 
-pub slice-bounds-result-end-2 : goal.slice-bounds-result-end-2
-slice-bounds-result-end-2 c =
+pub slice_bounds-result-end-2 : goal.slice_bounds-result-end-2
+slice_bounds-result-end-2 c =
     let more : 0 < run_at c.args.sheet.now c.args.at = omega arith in
     omega (arith, run-within c.args.sheet.now c.args.at more)
 
