@@ -16,10 +16,10 @@ returns-then-out-needed g c =
     let stored : length xs ≡ e.stored = sym c.count.ensures ∙ c.if-count-standing.false ∙ ap (λ x. x.stored) c.standing.ensures in
     let trail : places ≤ length ts = subst (λ n. n ≤ length ts) c.places.ensures c.if-trail-places.false in
     record {
-      answer = short-answer code width places xs ts e c.args.sheet.now c.in-Some.kind c.in-ok-size.size c.outcome-outcome.result
-          c.outcome-outcome.ensures c.if-sheet-gt2048.false c.in-Some.ensures stored trail c.in-ok-size.ensures.told c.args.out.now c.if-out-needed.true;
-      out = short-left code width places xs ts e c.args.sheet.now c.in-Some.kind c.in-ok-size.size c.outcome-outcome.result
-          c.outcome-outcome.ensures c.if-sheet-gt2048.false c.in-Some.ensures stored trail c.in-ok-size.ensures.told c.args.out.now c.if-out-needed.true;
+      answer = short-answer code width places xs ts e c.args.sheet.now c.in-Some.kind c.in_ok-size.size c.outcome-outcome.result
+          c.outcome-outcome.ensures c.if-sheet-gt2048.false c.in-Some.ensures stored trail c.in_ok-size.ensures.told c.args.out.now c.if-out-needed.true;
+      out = short-left code width places xs ts e c.args.sheet.now c.in-Some.kind c.in_ok-size.size c.outcome-outcome.result
+          c.outcome-outcome.ensures c.if-sheet-gt2048.false c.in-Some.ensures stored trail c.in_ok-size.ensures.told c.args.out.now c.if-out-needed.true;
     }
 
 pub returns : goal.returns
@@ -33,10 +33,10 @@ returns g c =
     let stored : length xs ≡ e.stored = sym c.count.ensures ∙ c.if-count-standing.false ∙ ap (λ x. x.stored) c.standing.ensures in
     let trail : places ≤ length ts = subst (λ n. n ≤ length ts) c.places.ensures c.if-trail-places.false in
     record {
-      answer = answer code width places xs ts e c.args.sheet.now c.in-Some.kind c.in-ok-size.size c.outcome-outcome.result
-          c.outcome-outcome.ensures c.if-sheet-gt2048.false c.in-Some.ensures stored trail c.in-ok-size.ensures.told c.args.out.now c.if-out-needed.false;
-      out = left code width places xs ts e c.args.sheet.now c.in-Some.kind c.in-ok-size.size c.outcome-outcome.result
-          c.outcome-outcome.ensures c.if-sheet-gt2048.false c.in-Some.ensures stored trail c.in-ok-size.ensures.told c.args.out.now c.if-out-needed.false
-          c.put-frame.new.out c.put-bytes.new.out c.write-body.new.out c.code-width.result c.code-width.ensures
-          c.put-frame.ensures c.put-bytes.ensures c.write-body.ensures.out;
+      answer = answer code width places xs ts e c.args.sheet.now c.in-Some.kind c.in_ok-size.size c.outcome-outcome.result
+          c.outcome-outcome.ensures c.if-sheet-gt2048.false c.in-Some.ensures stored trail c.in_ok-size.ensures.told c.args.out.now c.if-out-needed.false;
+      out = left code width places xs ts e c.args.sheet.now c.in-Some.kind c.in_ok-size.size c.outcome-outcome.result
+          c.outcome-outcome.ensures c.if-sheet-gt2048.false c.in-Some.ensures stored trail c.in_ok-size.ensures.told c.args.out.now c.if-out-needed.false
+          c.put_frame.new.out c.put_bytes.new.out c.write_body.new.out c.code_width.result c.code_width.ensures
+          c.put_frame.ensures c.put_bytes.ensures c.write_body.ensures.out;
     }

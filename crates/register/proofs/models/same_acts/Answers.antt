@@ -18,13 +18,13 @@ returns-then-a-b c = other_length same_act c.args.a.now c.args.b.now c.if-a-b.tr
 pub loop-i-init : goal.loop-i-init
 loop-i-init c = refl
 
-pub returns-then-not-same-act : goal.returns-then-not-same-act
+pub returns-then-not-same-act : goal.returns-then-not-same_act
 returns-then-not-same-act c =
     let a = c.args.a.now in
     let b = c.args.b.now in
     let i = c.loop-i.i in
     stops same_act a b i (at a i) (at b i) c.loop-i-test.true c.if-a-b.false
-    (at-is a i (omega arith)) (at-is b i (omega arith)) c.loop-i.invariant (sym c.same-act.ensures ∙ c.if-not-same-act.true)
+    (at-is a i (omega arith)) (at-is b i (omega arith)) c.loop-i.invariant (sym c.same_act.ensures ∙ c.if-not-same_act.true)
 
 pub loop-i-preserved : goal.loop-i-preserved
 loop-i-preserved c =
@@ -32,7 +32,7 @@ loop-i-preserved c =
     let b = c.args.b.now in
     let i = c.loop-i.i in
     goes same_act a b i (at a i) (at b i) c.loop-i-test.true c.if-a-b.false
-    (at-is a i (omega arith)) (at-is b i (omega arith)) c.loop-i.invariant (sym c.same-act.ensures ∙ c.if-not-same-act.false)
+    (at-is a i (omega arith)) (at-is b i (omega arith)) c.loop-i.invariant (sym c.same_act.ensures ∙ c.if-not-same_act.false)
 
 pub returns : goal.returns
 returns c = ends same_act c.args.a.now c.args.b.now c.loop-i.i (omega arith) c.if-a-b.false c.loop-i.invariant

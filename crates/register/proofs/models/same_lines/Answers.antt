@@ -24,19 +24,19 @@ returns-then-a-b c =
 pub loop-i-init : goal.loop-i-init
 loop-i-init c = refl
 
-pub returns-then-not-same-line : goal.returns-then-not-same-line
+pub returns-then-not-same-line : goal.returns-then-not-same_line
 returns-then-not-same-line c =
     let a = c.args.a.now in
     let b = c.args.b.now in
     stops same_acts (map acts_of a) (map acts_of b) c.loop-i.i _ _ (inside a c.loop-i.i c.loop-i-test.true) (alike a b c.if-a-b.false)
-    (read-map acts_of a c.loop-i.i _ c.index-a-i.is) (read-map acts_of b c.loop-i.i _ c.index-b-i.is) c.loop-i.invariant (sym c.same-line.ensures ∙ c.if-not-same-line.true)
+    (read-map acts_of a c.loop-i.i _ c.index-a-i.is) (read-map acts_of b c.loop-i.i _ c.index-b-i.is) c.loop-i.invariant (sym c.same_line.ensures ∙ c.if-not-same_line.true)
 
 pub loop-i-preserved : goal.loop-i-preserved
 loop-i-preserved c =
     let a = c.args.a.now in
     let b = c.args.b.now in
     goes same_acts (map acts_of a) (map acts_of b) c.loop-i.i _ _ (inside a c.loop-i.i c.loop-i-test.true) (alike a b c.if-a-b.false)
-    (read-map acts_of a c.loop-i.i _ c.index-a-i.is) (read-map acts_of b c.loop-i.i _ c.index-b-i.is) c.loop-i.invariant (sym c.same-line.ensures ∙ c.if-not-same-line.false)
+    (read-map acts_of a c.loop-i.i _ c.index-a-i.is) (read-map acts_of b c.loop-i.i _ c.index-b-i.is) c.loop-i.invariant (sym c.same_line.ensures ∙ c.if-not-same_line.false)
 
 pub returns : goal.returns
 returns c =

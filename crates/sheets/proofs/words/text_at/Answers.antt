@@ -20,5 +20,5 @@ slice_bounds-result-end-2 c =
 
 pub returns : goal.returns
 returns c =
-    let z : c.run-end-end.result - c.args.at ≡ run_at c.args.sheet.now c.args.at = omega arith in
+    let z : c.run_end-end.result - c.args.at ≡ run_at c.args.sheet.now c.args.at = omega arith in
     ap (λ n. take n (drop c.args.at c.args.sheet.now)) z

@@ -11,7 +11,7 @@ returns-then-value-high c =
 
 pub loop-b-preserved : goal.loop-b-preserved
 loop-b-preserved c =
-    ap (λ d. read_on (c.loop-b.value * 10 + d) (drop (c.loop-b.b-index + 1) c.args.text.now)) c.saturating-sub.ensures
+    ap (λ d. read_on (c.loop-b.value * 10 + d) (drop (c.loop-b.b-index + 1) c.args.text.now)) c.saturating_sub.ensures
     ∙ sym (read_on-more c.loop-b.value c.args.text.now c.loop-b.b-index c.loop-b-test.true) ∙ c.loop-b.invariant
 
 pub returns-then-value-high-2 : goal.returns-then-value-high-2

@@ -12,5 +12,5 @@ invariant-of-self c =
 pub returns-in-Some : goal.returns-in-Some
 returns-in-Some c = mark-is c.args.self.now _ _ c.args.number c.args.status c.in-Some.ensures.is c.in-Some.ensures.within
 
-pub returns-in-default : goal.returns-in-default
-returns-in-default c = sym ((found_at c.args.number (contents c.args.self.now) _ c.in-default.ensures.is).1 c.args.status)
+pub returns-in_default : goal.returns-in_default
+returns-in_default c = sym ((found_at c.args.number (contents c.args.self.now) _ c.in_default.ensures.is).1 c.args.status)
