@@ -13,8 +13,8 @@ returns-then-token-self c =
     let l : length (take s.count s.texts) ≡ s.count = length-take-le s.count s.texts (omega arith) in
     let here : c.args.token < s.count = omega arith in
     sym (cond-true _ _ _ (lt-ltb c.args.token (length (names_of s)) (omega arith))
-    ∙ ap (λ t. Some t) (texts-at (take s.count s.texts) c.args.token (record { ref_ptr = (0, 0); ghost_name = 0; now = [] }) (omega arith)
-    ∙ ap (λ r. r.now) (get_or-take s.count s.texts c.args.token (record { ref_ptr = (0, 0); ghost_name = 0; now = [] }) here)))
+    ∙ ap (λ t. Some t) (texts-at (take s.count s.texts) c.args.token (record { ref_ptr = (0, 0); now = [] }) (omega arith)
+    ∙ ap (λ r. r.now) (get_or-take s.count s.texts c.args.token (record { ref_ptr = (0, 0); now = [] }) here)))
 
 pub returns-else-token-self : goal.returns-else-token-self
 returns-else-token-self c =
