@@ -6,14 +6,14 @@ pub settle-requires : goal.settle-requires
 settle-requires g c =
     issued-open (contents c.args.register.now) c.args.sheet.now c.in-Ok.slip (contents c.issue.new.self) c.in-Ok.ensures.answer c.issue.ensures.held
 
-pub settle-requires-in-Err-work-on : goal.settle-requires-in-Err-work_on
-settle-requires-in-Err-work-on g c =
+pub settle-requires-in-Err-work_on : goal.settle-requires-in-Err-work_on
+settle-requires-in-Err-work_on g c =
     issued-open (contents c.args.register.now) c.args.sheet.now c.in-Ok.slip (contents c.issue.new.self) c.in-Ok.ensures.answer c.issue.ensures.held
 
-pub returns-in-Ok-work-on : goal.returns-in-Ok-work_on
-returns-in-Ok-work-on g c =
+pub returns-in-Ok-work_on : goal.returns-in-Ok-work_on
+returns-in-Ok-work_on g c =
     handled (contents c.args.register.now) c.args.sheet.now c.in-Ok.slip (contents c.issue.new.self) (contents c.settle.new.register) c.in-Ok.ensures.answer c.issue.ensures.held c.settle.ensures
 
-pub returns-in-Err-work-on : goal.returns-in-Err-work_on
-returns-in-Err-work-on g c =
+pub returns-in-Err-work_on : goal.returns-in-Err-work_on
+returns-in-Err-work_on g c =
     handled (contents c.args.register.now) c.args.sheet.now c.in-Ok.slip (contents c.issue.new.self) (contents c.settle-in-Err-work_on.new.register) c.in-Ok.ensures.answer c.issue.ensures.held c.settle-in-Err-work_on.ensures

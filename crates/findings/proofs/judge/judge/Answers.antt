@@ -10,8 +10,8 @@ returns-in-Err g c =
     let t : LentTables = record { scenes = g.T.Table.list c.args.scenes.now; scene_room = g.T.Table.room c.args.scenes.now; stores = g.U.Table.list c.args.stores.now; store_room = g.U.Table.room c.args.stores.now } in
     record { judges = judge-frame c.args.finding.now t _ c.in-Err.ensures.is; rooms = (refl, refl) }
 
-pub returns-in-err-judge-body : goal.returns-in_err-judge_body
-returns-in-err-judge-body g c =
+pub returns-in_err-judge_body : goal.returns-in_err-judge_body
+returns-in_err-judge_body g c =
     let t : LentTables = record { scenes = g.T.Table.list c.args.scenes.now; scene_room = g.T.Table.room c.args.scenes.now; stores = g.U.Table.list c.args.stores.now; store_room = g.U.Table.room c.args.stores.now } in
     let p = err_from_is_err_and c.from_residual-in_err-judge_body.result c.from_residual-in_err-judge_body.ensures.1 in
     record {
@@ -20,8 +20,8 @@ returns-in-err-judge-body g c =
       rooms = (c.judge_body.ensures.room, refl);
     }
 
-pub returns-in-err-judge-body-2 : goal.returns-in_err-judge_body-2
-returns-in-err-judge-body-2 g c =
+pub returns-in_err-judge_body-2 : goal.returns-in_err-judge_body-2
+returns-in_err-judge_body-2 g c =
     let t : LentTables = record { scenes = g.T.Table.list c.args.scenes.now; scene_room = g.T.Table.room c.args.scenes.now; stores = g.U.Table.list c.args.stores.now; store_room = g.U.Table.room c.args.stores.now } in
     let p = err_from_is_err_and c.from_residual-in_err-judge_body-2.result c.from_residual-in_err-judge_body-2.ensures.1 in
     record {

@@ -24,8 +24,8 @@ returns-then-a-b c =
 pub loop-i-init : goal.loop-i-init
 loop-i-init c = refl
 
-pub returns-then-not-same-line : goal.returns-then-not-same_line
-returns-then-not-same-line c =
+pub returns-then-not-same_line : goal.returns-then-not-same_line
+returns-then-not-same_line c =
     let a = c.args.a.now in
     let b = c.args.b.now in
     stops same_acts (map acts_of a) (map acts_of b) c.loop-i.i _ _ (inside a c.loop-i.i c.loop-i-test.true) (alike a b c.if-a-b.false)

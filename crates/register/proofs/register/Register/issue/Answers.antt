@@ -5,8 +5,8 @@ use Rattle.register.proofs.Places.{taken_is, full_is, admits-is, push-is}
 use Rattle.register.proofs.Held.{held-push, sound-open}
 use Rattle.register.proofs.register.Register.issue.Goals as goal
 
-pub returns-then-is-some : goal.returns-then-is_some
-returns-then-is-some c =
+pub returns-then-is_some : goal.returns-then-is_some
+returns-then-is_some c =
     let r = c.args.self.now in
     let d = c.in_ok-docket.docket in
     let a = taken_is r c.args.sheet.now d c.in_ok-docket.ensures.reads (c.if-is_some.ensures ∙ ap is_some c.seek.ensures.is) in
