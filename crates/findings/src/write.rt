@@ -46,8 +46,8 @@ pub fn write<M: Model, T: Table<State = M::State>>(
     sheet: &[u8],
     out: &mut [u8],
 ) -> Result<usize, WriteFault>
-    ensures answer { result ≡ write_answer (length out.old) (finding_of M.State.Coded.code M.State.Coded.width (room table.now) (list table.now) trail.now (exam_of exam.now) sheet.now) }
-    ensures out { out.new ≡ write_left out.old (finding_of M.State.Coded.code M.State.Coded.width (room table.now) (list table.now) trail.now (exam_of exam.now) sheet.now) }
+    ensures answer { result ≡ write_answer (length out.old) (finding_of M.State.Coded.code M.State.Coded.width (T.room table.now) (T.list table.now) trail.now (exam_of exam.now) sheet.now) }
+    ensures out { out.new ≡ write_left out.old (finding_of M.State.Coded.code M.State.Coded.width (T.room table.now) (T.list table.now) trail.now (exam_of exam.now) sheet.now) }
 {
     if sheet.len() > 2048 {
         return Err(WriteFault::Long);

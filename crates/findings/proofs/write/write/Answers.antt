@@ -7,8 +7,8 @@ use Rattle.findings.proofs.write.write.Goals as goal
 
 pub returns-then-out-needed : goal.returns-then-out-needed
 returns-then-out-needed g c =
-    let code = g.State.Coded.code in
-    let width = g.State.Coded.width in
+    let code = g.M.State.Coded.code in
+    let width = g.M.State.Coded.width in
     let places = g.T.Table.room c.args.table.now in
     let xs = g.T.Table.list c.args.table.now in
     let ts = c.args.trail.now in
@@ -24,8 +24,8 @@ returns-then-out-needed g c =
 
 pub returns : goal.returns
 returns g c =
-    let code = g.State.Coded.code in
-    let width = g.State.Coded.width in
+    let code = g.M.State.Coded.code in
+    let width = g.M.State.Coded.width in
     let places = g.T.Table.room c.args.table.now in
     let xs = g.T.Table.list c.args.table.now in
     let ts = c.args.trail.now in
