@@ -21,7 +21,7 @@ pub fn judge<T: Table<State = SceneState>, U: Table<State = StoreState>>(
     scenes: &mut T,
     stores: &mut U,
 ) -> Result<Verdict, FindingFault>
-    ensures judges { IsJudged finding.now (record { scenes = T.Table.list scenes.entry.now; scene_room = T.Table.room scenes.entry.now; stores = U.Table.list stores.old; store_room = U.Table.room stores.old }) (record { answer = plain_answer result; scenes = T.Table.list scenes.exit.now; stores = U.Table.list stores.new }) }
+    ensures judges { IsJudged finding.now (record { scenes = T.Table.list scenes.old; scene_room = T.Table.room scenes.old; stores = U.Table.list stores.old; store_room = U.Table.room stores.old }) (record { answer = plain_answer result; scenes = T.Table.list scenes.new; stores = U.Table.list stores.new }) }
     ensures rooms { (T.Table.room scenes.new ≡ T.Table.room scenes.old) × (U.Table.room stores.new ≡ U.Table.room stores.old) }
 {
     let frame = match frame_of(finding) {
