@@ -19,11 +19,11 @@ returns-then-self-ge-MOST c =
     let a = full_is r c.args.sheet.now d c.in_ok-docket.ensures.reads (c.if-is_some.ensures ∙ ap is_some c.seek.ensures.is) (omega arith) in
     record { answer = ap slip_for a; held = ap (with_sheet (contents r)) a }
 
-pub invariant-of-self : goal.invariant-of-self
-invariant-of-self c =
+pub invariant_of-self : goal.invariant_of-self
+invariant_of-self c =
     let r = c.args.self.now in
     let lt = c.if-self-ge-MOST.false in
-    (length-set _ _ _ ∙ r.long, (omega arith, (held-push r _ lt (sound-open (sheet_of c.in_ok-docket.docket)), tt)))
+    record { long = length-set _ _ _ ∙ r.long; within = omega arith; sound = held-push r _ lt (sound-open (sheet_of c.in_ok-docket.docket)) }
 
 pub returns : goal.returns
 returns c =
