@@ -1,8 +1,8 @@
 #!/bin/sh
 # Programs that the compiler must refuse before any proof: each edit of program.txt breaks one rule of slips and verdicts,
 # and must get the message that it states. program.txt itself must be accepted. `rt must-fail` takes only edits that reach
-# the prover, so these are tried here, by the compiler's front end alone, on the libraries' sources. A line for each;
-# the last is 'N refused as stated, M not'.
+# the prover, so these are tried here, by the compiler's front end alone, on the libraries' sources: a check of a function
+# that has no name proves nothing. A line for each; the last is 'N refused as stated, M not'.
 set -eu
 here=$(cd "$(dirname "$0")" && pwd)
 top=$(dirname "$here")
@@ -10,21 +10,25 @@ kit=${RATTLE_HOME:-$(dirname "$(dirname "$(readlink -f "$(command -v rt)")")")}
 work=$(mktemp -d)
 trap 'rm -rf "$work"' EXIT
 
-# the libraries that the program reaches, the lowest first
+# the libraries that a library uses, and those that the program reaches, the lowest first
+uses() { sed -n "s/#.*//; s/^$1:[ ]*//p" "$top/crates.txt"; }
 reach() {
-    for dep in $(sed -n "s/#.*//; s/^$1:[ ]*//p" "$top/crates.txt"); do reach "$dep"; done
+    for dep in $(uses "$1"); do reach "$dep"; done
     echo "$1"
 }
-set --
-for lib in $(reach register | awk '!seen[$0]++'); do set -- "$@" --lib "$lib=$top/crates/$lib/src/lib.rt"; done
+set -- --extern "std=$kit/rlibs/std.rlib" --extern "core=$kit/rlibs/core.rlib" -L "dependency=$kit/rlibs"
+for lib in $(reach register | awk '!seen[$0]++'); do
+    below=$(uses "$lib" | tr -s ' ' ',' | sed 's/,$//')
+    set -- "$@" --lib "$lib:core,std${below:+,$below}=$top/crates/$lib/src/lib.rt"
+done
 
 # the front end on a program: what it says goes to $work/said
 compile() {
     mkdir -p "$work/src"
     cp "$1" "$work/src/main.rt"
     shift
-    "$kit/bin/rattle-print-mir" -- --crate-name program "$work/src/main.rt" \
-        --extern "std=$kit/rlib/std.rlib" -L "dependency=$kit/rlib" "$@" >/dev/null 2>"$work/said"
+    (cd "$work" && "$kit/bin/rattle" check --crate-name program src/main.rt "$@" --only "" \
+        --antt-project "$kit/rattle/logic/antt-project.json" --logic-built "$kit/logic_built" --jobs 1) >"$work/said" 2>&1
 }
 field() { sed -n "s/^$1: //p" "$2"; }
 
