@@ -3,7 +3,7 @@ use Rattle.std.proofs.Common.{◌≡◌, ℕ, Bool, true, false, cond, eqb, ltb,
 use Rattle.sheets.specs.declared.fault.SheetFault.{SheetFault}
 use Rattle.sheets.specs.Reads.{Sheet, read_of}
 use Rattle.findings.specs.declared.verdict.Verdict.{Verdict}
-use Rattle.register.specs.Views.{EntryView, is_open, stamped}
+use Rattle.register.specs.Views.{EntryView, stamped}
 use Rattle.register.specs.Calls.{lookup, where_open, open_of, marked, opened, admitted, admits, slip_for, with_sheet, issued, issue_answer, hand_back, file_fault, file_answer, after_file, filed, after_withdraw, withdrawn}
 use Rattle.register.specs.declared.entry.Status.{Status}
 use Rattle.register.specs.declared.entry.Status.TheVariants.{Withdrawn}

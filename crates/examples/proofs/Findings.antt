@@ -1,21 +1,18 @@
 -- What the judge answers to two findings, from what their parts come to. Assumes nothing.
-use Rattle.std.proofs.Common.{◌≡◌, ℕ, true, List, [], Ok, Err, sym, refl, ap, ◌∙◌, arith}
+use Rattle.std.proofs.Common.{◌≡◌, ℕ, true, List, [], Ok, Err, ap, ◌∙◌, arith}
 use Rattle.sheets.specs.declared.arrangement.Arrangement.{Arrangement}
 use Rattle.sheets.specs.declared.arrangement.Arrangement.TheVariants.{Handshake, Tokens}
-use Rattle.sheets.specs.Programs.{Program}
 use Rattle.sheets.specs.Reads.{shake_of, shake, tokens, plan_of, program_of, read_of}
 use Rattle.tokens.specs.States.{code_of}
 use Rattle.tokens.specs.Models.{token_meaning}
 use Rattle.handshake.specs.declared.state.State as scene
-use Rattle.handshake.specs.States.{state_code}
-use Rattle.handshake.specs.Reads.{handshake_meaning}
 use Rattle.handshake.specs.Attack.{one_each, attack_labels}
 use Rattle.bodies.specs.declared.kind.Kind.TheVariants.{Breach, Closed}
 use Rattle.bodies.specs.declared.fault.BodyFault.TheVariants.{Label, Step}
 use Rattle.bodies.specs.Bodies.{label_bytes}
-use Rattle.bodies.specs.Judge.{judged, body_judged}
+use Rattle.bodies.specs.Judge.{body_judged}
 use Rattle.findings.specs.declared.fault.FindingFault.TheVariants.{Body}
-use Rattle.findings.specs.Frames.{finding, frame_of, sheet_in, body_in}
+use Rattle.findings.specs.Frames.{finding, frame_of, sheet_in}
 use Rattle.findings.specs.Judges.{plain_verdict, passing, LentTables, Judging, by_model, IsJudged}
 use Rattle.findings.specs.Stands.{frame_as}
 use Rattle.findings.proofs.Standing.{same-shake, docketed}

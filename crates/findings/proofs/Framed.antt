@@ -1,12 +1,12 @@
 -- What is written as a finding has that frame. Assumes nothing.
-use Rattle.std.proofs.Common.{◌≡◌, ℕ, ◌+◌, ◌*◌, ◌/◌, ◌%◌, ◌<◌, ◌≤◌, Bool, true, false, cond, not, ◌||◌, eqb, ltb, List, [], ◌∷◌, ◌++◌, length, get_or, take, drop, Some, None, Ok, Err, Option, Result, sym, refl, ap, ◌∙◌, subst, arith, length-append}
+use Rattle.std.proofs.Common.{◌≡◌, ℕ, ◌+◌, ◌*◌, ◌/◌, ◌%◌, ◌<◌, ◌≤◌, true, false, not, ◌||◌, eqb, List, ◌++◌, length, Some, Ok, sym, refl, ap, ◌∙◌, arith, length-append}
 use Rattle.std.proofs.lemmas.List.{take_at, drop_at, drop-drop}
 use Rattle.std.proofs.lemmas.Bool.{cond-false, le-ltb, eq-eqb}
 use Rattle.bodies.specs.declared.kind.Kind.{Kind}
 use Rattle.bodies.specs.declared.kind.Kind.TheVariants.{Breach, Closed}
 use Rattle.bodies.specs.Trips.{body_wide}
 use Rattle.findings.specs.declared.frame.Frame.{Frame}
-use Rattle.findings.specs.Frames.{number2, number4, bytes2, bytes4, kind_of, kind_byte, frame_bytes, finding, fields, kind_of_byte, frame_of, sheet_in, body_in}
+use Rattle.findings.specs.Frames.{number2, number4, kind_of, kind_byte, finding, kind_of_byte, frame_of, sheet_in, body_in}
 
 -- a number comes back from its bytes
 abbrev four : ℕ → ℕ

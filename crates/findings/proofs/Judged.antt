@@ -1,5 +1,5 @@
 -- The judge's answer, way by way. Assumes nothing.
-use Rattle.std.proofs.Common.{◌≡◌, ℕ, ◌+◌, ◌-◌, eqb, List, length, take, drop, Ok, Err, Result, sym, refl, ap, ◌∙◌, subst, arith}
+use Rattle.std.proofs.Common.{◌≡◌, ℕ, ◌+◌, ◌-◌, List, length, take, drop, Ok, Err, sym, ap, ◌∙◌, subst, arith}
 use Rattle.std.proofs.lemmas.List.{take_rest}
 use Rattle.std.proofs.lemmas.Bool.{cond-true, eq-eqb}
 use Rattle.sheets.specs.declared.arrangement.Arrangement.{Arrangement}
@@ -7,7 +7,6 @@ use Rattle.sheets.specs.declared.arrangement.Arrangement.TheVariants.{Handshake,
 use Rattle.sheets.specs.declared.arrangement.Handshake as shake
 use Rattle.sheets.specs.declared.arrangement.Tokens as program
 use Rattle.sheets.specs.declared.arrangement.Docket.{Docket}
-use Rattle.sheets.specs.declared.fault.SheetFault.{SheetFault}
 use Rattle.sheets.specs.declared.fault.SheetFault.TheVariants.{TooLong}
 use Rattle.sheets.specs.Reads.{plan_of, read_of, sheet_read}
 use Rattle.handshake.specs.declared.state.State as scene
@@ -19,9 +18,9 @@ use Rattle.tokens.specs.Models.{token_meaning}
 use Rattle.sheets.specs.Reads.{program_of}
 use Rattle.bodies.specs.Judge.{Answer, Judged, judged}
 use Rattle.findings.specs.declared.frame.Frame as frame
-use Rattle.findings.specs.declared.fault.FindingFault.TheVariants.{Frame, Sheet, Body}
+use Rattle.findings.specs.declared.fault.FindingFault.TheVariants.{Frame}
 use Rattle.findings.specs.Frames.{frame_of, sheet_in, body_in}
-use Rattle.findings.specs.Judges.{PlainVerdict, plain_verdict, LentTables, Judging, refusing, passing, by_scenes, by_stores, by_model, by_sheet, by_frame, ReadIn, IsJudged}
+use Rattle.findings.specs.Judges.{plain_verdict, LentTables, Judging, refusing, passing, by_model, by_frame, ReadIn, IsJudged}
 
 pub judge-frame : (b : List ℕ) (t : LentTables) (o : ℕ) → Err o ≡ frame_of b → IsJudged b t (refusing (Frame o) t)
 judge-frame b t o e = (Err TooLong, subst (λ r. ReadIn r b (Err TooLong)) e tt, ap (λ r. by_frame r b (Err TooLong) t) e)

@@ -1,5 +1,5 @@
 -- Findings that are written are accepted. Assumes nothing.
-use Rattle.std.proofs.Common.{◌≡◌, ℕ, ◌+◌, ◌*◌, ◌<◌, ◌≤◌, Bool, true, false, cond, not, ◌&&◌, eqb, ltb, List, [], ◌∷◌, ◌++◌, length, Some, None, Ok, Err, Option, Result, sym, refl, ap, ◌∙◌, subst, mul-le-mul, arith}
+use Rattle.std.proofs.Common.{◌≡◌, ℕ, ◌*◌, ◌<◌, ◌≤◌, Bool, true, false, cond, List, [], length, Some, Ok, Err, Result, sym, refl, ap, ◌∙◌, subst, mul-le-mul, arith}
 use mathlib.Core.HLevel.{is_prop→PathP}
 use native.Mathlib.Bridge.{le_prop}
 use Rattle.std.proofs.lemmas.Bool.{cond-true, cond-false, le-ltb, eq-eqb, and_from, not_from_false}
@@ -9,7 +9,6 @@ use Rattle.sheets.specs.declared.arrangement.Handshake as shake
 use Rattle.sheets.specs.declared.arrangement.Tokens as program
 use Rattle.sheets.specs.declared.arrangement.Docket.{Docket}
 use Rattle.sheets.specs.declared.fault.SheetFault.{SheetFault}
-use Rattle.sheets.specs.Programs.{Program}
 use Rattle.sheets.specs.Reads.{Shake, shake_of, Sheet, Plan, plan_of, sheet_of, read_of, sheet_read}
 use Rattle.meaning.specs.Codes.{IsCode}
 use Rattle.meaning.specs.Meaning.{Meaning, IsModel, Reads}
@@ -21,24 +20,23 @@ use Rattle.tokens.specs.States.{code_of}
 use Rattle.tokens.specs.Models.{token_meaning}
 use Rattle.sheets.specs.Reads.{program_of}
 use Rattle.examination.specs.declared.trail.Link.{Link}
-use Rattle.examination.specs.declared.fault.OpenFault.{OpenFault}
 use Rattle.examination.specs.declared.fault.OpenFault.TheVariants.{Unfit}
 use Rattle.examination.specs.Search.{Search, opened, row}
 use Rattle.examination.specs.Theorems.{CountsAgree}
-use Rattle.examination.specs.Calls.{fresh, opening}
+use Rattle.examination.specs.Calls.{fresh}
 use Rattle.examination.specs.CallRows.{called, accepted}
 use Rattle.examination.proofs.Results.{search-stands}
 use Rattle.examination.proofs.CallRows.{fresh-is, called_is}
 use Rattle.bodies.specs.declared.kind.Kind.{Kind}
 use Rattle.bodies.specs.declared.kind.Kind.TheVariants.{Breach, Closed}
 use Rattle.bodies.specs.Bodies.{Body, body_of}
-use Rattle.bodies.specs.Judge.{Judged, judged, judged_as}
-use Rattle.bodies.specs.Trips.{kind_of, body_wide, body_held, given, BodyIsAccepted}
+use Rattle.bodies.specs.Judge.{Judged, judged}
+use Rattle.bodies.specs.Trips.{kind_of, body_wide, given, BodyIsAccepted}
 use Rattle.bodies.proofs.Trips.{bodies-stand}
 use Rattle.findings.specs.declared.frame.Frame as frame
 use Rattle.findings.specs.Frames.{finding, frame_of, sheet_in, body_in}
 use Rattle.findings.specs.Writes.{in_frame, of_kind, fitting, finding_of}
-use Rattle.findings.specs.Judges.{plain_verdict, passing, LentTables, Judging, by_scenes, by_stores, by_model, by_sheet, by_frame, ReadIn, IsJudged}
+use Rattle.findings.specs.Judges.{plain_verdict, passing, LentTables, Judging, by_model, by_sheet, by_frame, ReadIn, IsJudged}
 use Rattle.findings.specs.Stands.{frame_as, IsFindingOf, EndedSearchesHaveFindings, JudgedAsWritten, EmptyScenes, EmptyStores, JudgeAcceptsWhatIsWritten}
 use Rattle.findings.proofs.Framed.{frame-done, sheet-done, body-done}
 use Rattle.findings.proofs.Trailed.{row-long, opened-long}

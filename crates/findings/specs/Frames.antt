@@ -1,5 +1,5 @@
 -- The frame of a finding. Numbers have the highest byte first. Assumes nothing.
-use Rattle.std.specs.Prelude.{ℕ, ◌+◌, ◌*◌, ◌/◌, ◌%◌, Bool, true, false, cond, not, ◌||◌, List, [], ◌∷◌, ◌++◌, length, take, drop, Some, None, Ok, Err, Option, Result, ◌==◌, nat_lt, slice_index}
+use Rattle.std.specs.Prelude.{ℕ, ◌+◌, ◌*◌, ◌/◌, ◌%◌, cond, not, ◌||◌, List, [], ◌∷◌, ◌++◌, length, take, drop, Some, None, Ok, Err, Option, Result, ◌==◌, nat_lt, slice_index}
 use Rattle.bodies.specs.declared.kind.Kind.{Kind}
 use Rattle.bodies.specs.declared.kind.Kind.TheVariants.{Breach, Closed}
 use Rattle.bodies.specs.Trips.{body_wide}

@@ -17,7 +17,7 @@ use Rattle.examination.specs.Search.{Search}
 use Rattle.examination.specs.Calls.{opening}
 use Rattle.examination.specs.CallRows.{called}
 use Rattle.bodies.specs.declared.kind.Kind.{Kind}
-use Rattle.bodies.specs.declared.kind.Kind.TheVariants.{Breach, Closed}
+use Rattle.bodies.specs.declared.kind.Kind.TheVariants.{Breach}
 use Rattle.bodies.specs.Judge.{judged, judged_as}
 use Rattle.bodies.specs.Trips.{kind_of, body_held}
 use Rattle.findings.specs.declared.frame.Frame.{Frame}

@@ -1,5 +1,5 @@
 -- The bytes of each line of a listing. Assumes nothing.
-use Rattle.std.specs.Prelude.{ℕ, List, [], ◌∷◌, ◌++◌, codes, decimal}
+use Rattle.std.specs.Prelude.{ℕ, List, [], ◌++◌, codes, decimal}
 use Rattle.std.proofs.Math.Utf8.{encode}
 use Rattle.bodies.specs.declared.fault.Values.{Values}
 use Rattle.bodies.specs.declared.fault.Values.TheVariants.{Nothing, One, Two}

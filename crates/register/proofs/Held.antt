@@ -3,8 +3,7 @@ use Rattle.std.proofs.Common.{◌≡◌, ℕ, zero, suc, ◌+◌, ◌<◌, Bool,
 use mathlib.Core.Logic.{∥∥₁_elim, ∥∥₁_map}
 use Rattle.std.specs.List.{slice_get}
 use Rattle.std.proofs.lemmas.Bool.{and_parts}
-use Rattle.sheets.specs.declared.arrangement.Arrangement.{Arrangement}
-use Rattle.sheets.specs.Reads.{Plan, Sheet, plan_of, sheet_of}
+use Rattle.sheets.specs.Reads.{Sheet, plan_of}
 use Rattle.bodies.specs.declared.kind.Kind.{Kind}
 use Rattle.findings.specs.declared.verdict.Verdict.{Verdict}
 use Rattle.findings.specs.Truths.{IsTrueOf}
@@ -18,7 +17,6 @@ use Rattle.register.specs.declared.entry.Status.TheVariants.{Open, Filed, Withdr
 use Rattle.register.specs.declared.entry.Entry.{Entry}
 use Rattle.register.specs.declared.register.Register.{Register}
 use Rattle.register.specs.declared.slip.Slip.{Slip}
-use Rattle.register.specs.declared.fault.FileFault.{FileFault}
 use Rattle.register.specs.declared.fault.FileFault.TheVariants.{NotOpen, OtherDocket}
 
 pub open-filed : {P : Type 0} (k : Kind) → Open ≡ Filed k → P

@@ -1,8 +1,7 @@
 -- The comparison of plans decides; and arrangements of one plan have the same runs.
-use Rattle.std.proofs.Common.{◌≡◌, ℕ, ◌≤◌, Bool, true, false, ◌&&◌, eqb, List, [], ◌∷◌, sym, refl, ap, ◌∙◌, subst, arith}
+use Rattle.std.proofs.Common.{◌≡◌, ℕ, Bool, true, false, ◌&&◌, eqb, List, [], ◌∷◌, sym, refl, ap, subst, arith}
 use mathlib.Core.Logic.{∥∥₁_map}
 use Rattle.std.proofs.lemmas.Bool.{eqb-true, eq-eqb, and_parts, and_from, both_ways}
-use Rattle.sheets.specs.declared.line.Act.{Act}
 use Rattle.sheets.specs.Programs.{Program}
 use Rattle.sheets.specs.Reads.{Shake, Plan, shake, tokens, shake_of, program_of, plan_of}
 use Rattle.sheets.specs.declared.arrangement.Handshake.{Handshake as Arranged}

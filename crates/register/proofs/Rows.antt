@@ -1,5 +1,5 @@
 -- The theorem over any row of calls: each part holds of one turn, and so of a row.
-use Rattle.std.proofs.Common.{◌≡◌, ℕ, zero, suc, ◌+◌, ◌<◌, ◌≤◌, Bool, true, false, cond, ◌&&◌, eqb, ltb, ◌⊎◌, List, [], ◌∷◌, ◌++◌, map, length, is_some, Some, None, Ok, Err, Option, Result, sym, refl, ap, ◌∙◌, subst, inl, inr, ⊎_elim, arith}
+use Rattle.std.proofs.Common.{◌≡◌, ℕ, zero, suc, ◌+◌, ◌<◌, ◌≤◌, Bool, true, false, cond, ◌&&◌, eqb, ltb, List, [], ◌∷◌, ◌++◌, map, length, is_some, Some, None, Ok, Err, Option, Result, sym, refl, ap, ◌∙◌, subst, ⊎_elim, arith}
 use lib.ListN.{length-map}
 use Rattle.std.specs.List.{slice_get}
 use Rattle.std.proofs.lemmas.Bool.{eqb-true, eqb-false, eq-eqb, ne_eqb, lt-ltb, both_ways, cases_Bool, cases_eq, and_from, cond-true, cond-false}
@@ -10,11 +10,11 @@ use Rattle.sheets.specs.Reads.{Sheet, read_of, plan_of, sheet_of}
 use Rattle.bodies.specs.declared.kind.Kind.{Kind}
 use Rattle.bodies.specs.declared.kind.Kind.TheVariants.{Breach, Closed}
 use Rattle.findings.specs.declared.verdict.Verdict.{Verdict}
-use Rattle.findings.specs.Truths.{BreachRunOf, IsTrueOf}
+use Rattle.findings.specs.Truths.{IsTrueOf}
 use Rattle.register.specs.Plans.{same_plan}
 use Rattle.register.specs.Views.{EntryView, is_open, is_filed, is_withdrawn, stamped, FiledKindIsTrue, EachIsTrue}
-use Rattle.register.specs.Calls.{lookup, where_open, open_of, marked, opened, admitted, admits, slip_for, issue_answer, fault_at, file_fault, hand_back, file_answer, ended_at, withdraw_answer}
-use Rattle.register.specs.Rows.{Call, after, row, opens, sheets, Ending, ending, ends, endings, status_by, status_in, read_as_entry, tally, AcceptsWhatItShould, HoldsAfterRow, FiledDocketsAreTrue}
+use Rattle.register.specs.Calls.{lookup, where_open, open_of, marked, opened, admitted, slip_for, issue_answer, fault_at, hand_back, file_answer, ended_at}
+use Rattle.register.specs.Rows.{Call, after, row, opens, sheets, Ending, ending, endings, status_by, status_in, read_as_entry, tally, AcceptsWhatItShould, FiledDocketsAreTrue}
 use Rattle.register.proofs.Plans.{plan-same}
 use Rattle.register.proofs.Held.{none-some, each_none, each-push, each-marked, each-nth, sound-open}
 use Rattle.register.proofs.Turns.{Turn, same, more, over, turn}

@@ -1,13 +1,13 @@
 -- What one call does to the entries: nothing, one more entry, or an open entry ended.
-use Rattle.std.proofs.Common.{◌≡◌, ℕ, ◌<◌, Bool, true, false, cond, eqb, ltb, List, [], ◌∷◌, ◌++◌, length, is_some, Some, None, Ok, Err, Option, Result, sym, refl, ap, ◌∙◌, subst}
+use Rattle.std.proofs.Common.{◌≡◌, ℕ, ◌<◌, Bool, true, false, cond, ltb, List, [], ◌∷◌, ◌++◌, length, is_some, Some, None, Ok, Err, Option, Result, refl}
 use Rattle.std.proofs.lemmas.Bool.{ltb-true, both_ways}
 use Rattle.sheets.specs.declared.fault.SheetFault.{SheetFault}
 use Rattle.sheets.specs.Reads.{Sheet, read_of}
 use Rattle.findings.specs.declared.verdict.Verdict.{Verdict}
 use Rattle.register.specs.Views.{EntryView, is_open, stamped, FiledKindIsTrue}
-use Rattle.register.specs.Calls.{lookup, where_open, open_of, marked, admitted, admits, slip_for, opened, with_sheet, fault_at, file_fault, hand_back, after_file, ended_at, after_withdraw}
+use Rattle.register.specs.Calls.{lookup, open_of, marked, admitted, slip_for, opened, with_sheet, file_fault, hand_back, after_file, ended_at, after_withdraw}
 use Rattle.register.specs.Rows.{Call, issuing, filing, withdrawing, after, opening, opens, Ending, ending, filing-ends, withdrawal-ends, ends}
-use Rattle.register.proofs.Held.{none-some, open_is, file-is, file-sound, sound-withdrawn}
+use Rattle.register.proofs.Held.{open_is, file-is, file-sound, sound-withdrawn}
 use Rattle.register.specs.declared.entry.Status.{Status}
 use Rattle.register.specs.declared.entry.Status.TheVariants.{Filed, Withdrawn}
 use Rattle.register.specs.declared.slip.Slip.{Slip}

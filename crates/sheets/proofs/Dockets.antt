@@ -1,13 +1,12 @@
 -- Every docket has a text: its tokens can be named by single letters. Assumes nothing.
-use Rattle.std.proofs.Common.{◌≡◌, ℕ, zero, suc, ◌+◌, ◌<◌, ◌≤◌, Bool, true, false, ◌&&◌, ltb, leb, List, [], ◌∷◌, length, get_or, sym, refl, ap, ◌∙◌, subst, arith}
+use Rattle.std.proofs.Common.{◌≡◌, ℕ, zero, suc, ◌+◌, ◌<◌, ◌≤◌, true, ◌&&◌, ltb, leb, List, [], ◌∷◌, length, get_or, sym, refl, ap, ◌∙◌, arith}
 use Rattle.std.proofs.lemmas.Bool.{and_parts, and_from, le-leb, leb-true}
 use Rattle.sheets.specs.declared.arrangement.Arrangement.{Arrangement}
 use Rattle.sheets.specs.declared.arrangement.Arrangement.TheVariants.{Handshake, Tokens}
-use Rattle.sheets.specs.declared.arrangement.Docket.{Docket}
 use Rattle.sheets.specs.Programs.{Program, all_in_order, used_by_all, formed}
 use Rattle.sheets.specs.Words.{small, is_name}
-use Rattle.sheets.specs.Reads.{Plan, plan_of, sheet_of, program_of}
-use Rattle.sheets.specs.Rendered.{Naming, NamesFor, PlanIsWithinLimits, IsTextOf, EveryDocketHasAText, render}
+use Rattle.sheets.specs.Reads.{plan_of, sheet_of, program_of}
+use Rattle.sheets.specs.Rendered.{Naming, NamesFor, PlanIsWithinLimits, EveryDocketHasAText, render}
 
 -- n names of one letter, from the letter c on
 letters : ℕ → ℕ → List (List ℕ)

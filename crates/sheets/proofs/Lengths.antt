@@ -1,13 +1,13 @@
 -- A docket's text is never too long. Assumes nothing.
-use Rattle.std.proofs.Common.{◌≡◌, ℕ, zero, suc, ◌+◌, ◌*◌, ◌^◌, ◌<◌, ◌≤◌, Bool, true, false, cond, ◌&&◌, ltb, leb, List, [], ◌∷◌, ◌++◌, length, get_or, codes, decimal, sym, refl, ap, ◌∙◌, subst, arith, length-append}
+use Rattle.std.proofs.Common.{◌≡◌, ℕ, ◌+◌, ◌*◌, ◌≤◌, Bool, true, false, cond, ◌&&◌, ltb, leb, List, [], ◌∷◌, ◌++◌, length, get_or, codes, decimal, refl, ap, arith, length-append}
 use Rattle.std.proofs.lemmas.Fmt.{length-decimal-le}
 use Rattle.std.proofs.lemmas.List.{get_or_past}
 use Rattle.std.proofs.lemmas.Bool.{leb-true, ltb-true, ltb-false, and_parts}
 use Rattle.sheets.specs.declared.line.Act.{Act}
 use Rattle.sheets.specs.Programs.{Program, used_by, used_by_all, in_order, all_in_order, formed}
-use Rattle.sheets.specs.Words.{small, all_of, is_name}
+use Rattle.sheets.specs.Words.{small, all_of}
 use Rattle.sheets.specs.Reads.{Shake, Plan, shake, tokens, Sheet}
-use Rattle.sheets.specs.Rendered.{Between, spaced, render_shake, render_act, render_acts, render_lines, render_program, render_plan, render, Naming, NamesFor, HandshakeIsWithinLimits, PlanIsWithinLimits, IsWithinLimits}
+use Rattle.sheets.specs.Rendered.{spaced, render_shake, render_act, render_acts, render_lines, render_program, render_plan, render, Naming, NamesFor, HandshakeIsWithinLimits, PlanIsWithinLimits, IsWithinLimits}
 
 -- ---- numbers
 short-number : (high n : ℕ) → high ≤ 9999 → n ≤ high → length (decimal n) ≤ 4

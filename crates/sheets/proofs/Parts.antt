@@ -1,17 +1,17 @@
 -- Each part of a sheet: what is read is what stands there, and what stands there is read.
-use Rattle.std.proofs.Common.{◌≡◌, ℕ, suc, ◌+◌, ◌-◌, ◌*◌, ◌^◌, ◌<◌, ◌≤◌, Bool, true, false, cond, not, ◌&&◌, ◌||◌, eqb, ltb, leb, List, [], ◌∷◌, ◌++◌, length, get_or, take, drop, Some, None, Ok, Err, codes, decimal, Option, Result, sym, refl, ap, ◌∙◌, subst, append_assoc, arith, length-drop, take-append-drop, rules}
+use Rattle.std.proofs.Common.{◌≡◌, ℕ, ◌+◌, ◌^◌, ◌<◌, ◌≤◌, Bool, true, false, cond, not, ◌&&◌, ◌||◌, eqb, ltb, leb, List, [], ◌∷◌, ◌++◌, length, get_or, take, drop, Some, None, Ok, Err, decimal, Option, Result, sym, refl, ap, ◌∙◌, subst, arith, length-drop, take-append-drop, rules}
 use Rattle.std.specs.List.{prefix_len}
 use Rattle.std.specs.Str.{bytes_eq}
-use Rattle.std.proofs.lemmas.List.{drop-drop, take_at, drop_at, drop_more, drop_all, length-drop}
+use Rattle.std.proofs.lemmas.List.{drop-drop, take_at, drop_at, drop_more, length-drop}
 use Rattle.std.proofs.lemmas.Slice.Eq.{bytes_eq-Decides}
 use Rattle.std.proofs.lemmas.Str.Parse.{IsNumeralModel, numerals_by_fold}
 use Rattle.std.proofs.lemmas.Fmt.{decimal-digits_value, digits_decimal, digits_value-decimal, decimal_nonempty, first_decimal}
-use Rattle.std.proofs.lemmas.Bool.{and_parts, and_from, or_left, or_cases, le-leb, leb-true, ltb-true, lt-ltb, ne_eqb, eqb-true, eq-eqb, not-true, not_from_false, cond-true}
+use Rattle.std.proofs.lemmas.Bool.{and_parts, and_from, or_left, le-leb, leb-true, ltb-true, lt-ltb, ne_eqb, eqb-true, eq-eqb, not_from_false, cond-true}
 use Rattle.std.proofs.lemmas.Bool.Decides.{nat_tests}
 use Rattle.sheets.specs.declared.fault.SheetFault.{SheetFault}
 use Rattle.sheets.specs.declared.fault.SheetFault.TheVariants.{Misplaced, OutOfRange}
 use Rattle.sheets.specs.Words.{solid, digit, run_at, text_at, all_of, within, read_on, is_number, is_instruction, is_keyword, is_name, Kind, keyword, number, instruction, name, kind_of}
-use Rattle.sheets.specs.Reads.{Got, and_then, word_at, stop, separator_at, keyword_in, keyword_at, number_in, number_at, spaced_at}
+use Rattle.sheets.specs.Reads.{Got, and_then, word_at, stop, separator_at, keyword_in, keyword_at, number_in, number_at}
 use Rattle.sheets.specs.Rendered.{Between}
 
 pub inj : {X : Type 0} {x y : X} → ◌≡◌ {A = Result X SheetFault} (Ok x) (Ok y) → x ≡ y

@@ -1,5 +1,5 @@
 -- A fault's place lies within the sheet. Assumes nothing.
-use Rattle.std.proofs.Common.{◌≡◌, ℕ, zero, suc, ◌+◌, ◌<◌, ◌≤◌, Bool, true, false, cond, ◌&&◌, eqb, ltb, leb, List, [], ◌∷◌, length, get_or, take, drop, Some, None, Ok, Err, codes, Option, Result, sym, refl, ap, ◌∙◌, subst, arith, length-drop}
+use Rattle.std.proofs.Common.{◌≡◌, ℕ, zero, suc, ◌+◌, ◌<◌, ◌≤◌, Bool, true, false, cond, ◌&&◌, eqb, ltb, leb, List, [], length, get_or, take, drop, Some, None, Ok, Err, codes, Option, Result, sym, refl, ap, ◌∙◌, subst, arith, length-drop}
 use Rattle.std.specs.Str.{bytes_eq}
 use Rattle.std.proofs.lemmas.List.Sums.{prefix_len-le-length}
 use Rattle.std.proofs.lemmas.Bool.{ltb-true, ltb-false, lt-ltb, and_parts, cond-true}
@@ -7,7 +7,7 @@ use Rattle.sheets.specs.declared.fault.SheetFault.{SheetFault}
 use Rattle.sheets.specs.declared.fault.SheetFault.TheVariants.{TooLong, Misplaced, OutOfRange, Ended}
 use Rattle.sheets.specs.Words.{solid, run_at, Kind, keyword, number, instruction, name, kind_of, read_on, within}
 use Rattle.sheets.specs.Names.{index_of}
-use Rattle.sheets.specs.Reads.{Got, and_then, only, unnamed, word_at, stop, separator_at, keyword_in, keyword_at, number_in, number_at, spaced_at, either_in, either_at, docket_at, shake_at, Sofar, sofar, with_act, act_in, act_at, acts_at, space_at, Listed, listed, head_in, head_at, agent_at, agents_at, used_in, token_in, token_at, breach_at, program_at, end_at, shake, tokens, Sheet, plan_in, plan_at, sheet_at, named_of, read_of}
+use Rattle.sheets.specs.Reads.{Got, and_then, only, unnamed, word_at, stop, separator_at, keyword_in, keyword_at, number_in, number_at, spaced_at, either_in, either_at, docket_at, shake_at, Sofar, sofar, with_act, act_in, act_at, acts_at, space_at, Listed, listed, head_in, head_at, agent_at, agents_at, used_in, token_in, token_at, breach_at, program_at, end_at, shake, tokens, Sheet, plan_in, plan_at, sheet_at, named_of}
 use Rattle.sheets.specs.Rendered.{PlaceLiesIn, FaultPlacesLieInTheSheet}
 
 -- a fault at a byte of n bytes, or at their end

@@ -1,5 +1,5 @@
 -- The examples, computed. Assumes nothing.
-use Rattle.std.proofs.Common.{◌≡◌, refl}
+use Rattle.std.proofs.Common.{refl}
 use Rattle.sheets.specs.Reads.{named_of, acts_at, agents_at}
 use Rattle.sheets.specs.Examples.{Examples}
 

@@ -1,18 +1,17 @@
 -- The lines of a token store: what is written is read. Assumes nothing.
-use Rattle.std.proofs.Common.{◌≡◌, ℕ, zero, suc, ◌+◌, ◌-◌, ◌<◌, ◌≤◌, max, Bool, true, false, cond, not, ◌&&◌, ◌||◌, eqb, ltb, leb, ◌⊎◌, List, [], ◌∷◌, ◌++◌, length, get_or, take, drop, Some, None, Ok, Err, codes, Option, sym, refl, ap, ◌∙◌, subst, inl, inr, ⊎_elim, append_assoc, append-nil, arith, length-append, length-drop, length-take}
+use Rattle.std.proofs.Common.{◌≡◌, ℕ, zero, suc, ◌+◌, ◌<◌, ◌≤◌, max, Bool, true, false, cond, ◌&&◌, ltb, leb, ◌⊎◌, List, [], ◌∷◌, ◌++◌, length, get_or, take, drop, Some, None, Ok, codes, sym, refl, ap, ◌∙◌, subst, inl, inr, ⊎_elim, append_assoc, append-nil, arith, length-append, length-drop}
 use Rattle.std.specs.Str.{bytes_eq}
 use Rattle.std.proofs.lemmas.Slice.Eq.{bytes_eq-Decides}
 use Rattle.std.proofs.lemmas.List.{drop_more, get_or-take, take_more, take_all, length-take-le}
-use Rattle.std.proofs.lemmas.Bool.{cond-true, cond-false, leb-true, ltb-true, ltb-false, lt-ltb, le-ltb, lt-leb, le-leb, eq-eqb, ne_eqb, and_parts, and_from, and_left, and_right}
+use Rattle.std.proofs.lemmas.Bool.{cond-true, cond-false, leb-true, ltb-true, ltb-false, lt-ltb, lt-leb, le-leb, eq-eqb, ne_eqb, and_parts, and_from, and_left, and_right}
 use Rattle.std.proofs.lemmas.Bool.Decides.{nat_tests}
 use Rattle.sheets.specs.declared.line.Act.{Act}
 use Rattle.sheets.specs.Programs.{Program, sign, used, used_by, used_by_all, in_order, all_in_order, formed}
-use Rattle.sheets.specs.Words.{solid, small, digit, all_of, is_name, is_number, is_instruction, is_keyword, run_at, text_at, Kind, keyword, number, instruction, name, kind_of}
+use Rattle.sheets.specs.Words.{solid, small, digit, all_of, is_name, is_number, is_instruction, is_keyword, run_at, keyword, instruction, name, kind_of}
 use Rattle.sheets.specs.Names.{index_of, with_name}
-use Rattle.sheets.specs.Reads.{Got, and_then, word_at, separator_at, Sofar, sofar, act_of, with_act, act_in, act_at, acts_at, space_at, Listed, listed, head_in, head_at, agent_at, agents_at, used_in, token_in, token_at, breach_at, program_at}
+use Rattle.sheets.specs.Reads.{Got, and_then, separator_at, Sofar, sofar, with_act, act_in, act_at, acts_at, space_at, Listed, listed, head_in, head_at, agent_at, agents_at, used_in, token_in, token_at, breach_at, program_at}
 use Rattle.sheets.specs.Rendered.{spaced, render_act, render_acts, render_lines, render_program, Naming}
 use Rattle.sheets.proofs.Parts.{Blank, Done, done-then, sep-done, word-done}
-use Rattle.sheets.proofs.LineFacts.{then_ok}
 
 -- ---- names are words
 solid-small : (c : ℕ) → small c ≡ true → solid c ≡ true

@@ -1,16 +1,15 @@
 -- The lines of a token store: what is read stands there, numbered by first use. Assumes nothing.
-use Rattle.std.proofs.Common.{◌≡◌, ℕ, zero, suc, ◌+◌, ◌<◌, ◌≤◌, max, Bool, true, false, cond, not, ◌&&◌, ◌||◌, eqb, ltb, leb, List, [], ◌∷◌, ◌++◌, length, get_or, drop, Some, None, Ok, Err, codes, Option, sym, refl, ap, ◌∙◌, subst, append_assoc, append-nil, arith, length-append}
+use Rattle.std.proofs.Common.{◌≡◌, ℕ, zero, suc, ◌+◌, ◌<◌, ◌≤◌, Bool, true, false, cond, ◌&&◌, eqb, ltb, leb, List, [], ◌∷◌, ◌++◌, length, get_or, drop, Some, None, Ok, Err, codes, Option, sym, refl, ap, ◌∙◌, subst, append_assoc, append-nil, arith, length-append}
 use Rattle.std.specs.Str.{bytes_eq}
 use Rattle.std.proofs.lemmas.Slice.Eq.{bytes_eq-Decides}
 use Rattle.std.proofs.lemmas.List.{drop_more}
-use Rattle.std.proofs.lemmas.Bool.{leb-true, leb-false, ltb-true, ltb-false, lt-ltb, le-leb, eqb-true, and_parts, and_from}
-use Rattle.sheets.specs.declared.fault.SheetFault.{SheetFault}
+use Rattle.std.proofs.lemmas.Bool.{leb-true, leb-false, ltb-true, lt-ltb, le-leb, eqb-true, and_parts, and_from}
 use Rattle.sheets.specs.declared.fault.SheetFault.TheVariants.{Misplaced, OutOfRange}
 use Rattle.sheets.specs.declared.line.Act.{Act}
 use Rattle.sheets.specs.Programs.{Program, sign, used, used_by, used_by_all, in_order, all_in_order, formed}
 use Rattle.sheets.specs.Words.{is_name, is_instruction, run_at, text_at, Kind, keyword, number, instruction, name}
 use Rattle.sheets.specs.Names.{index_of, with_name}
-use Rattle.sheets.specs.Reads.{Got, and_then, word_at, stop, separator_at, Sofar, sofar, act_of, with_act, act_in, act_at, acts_at, space_at, Listed, listed, head_in, head_at, agent_at, agents_at, used_in, token_in, token_at, breach_at, program_at}
+use Rattle.sheets.specs.Reads.{Got, and_then, word_at, separator_at, Sofar, sofar, act_of, with_act, act_in, act_at, acts_at, space_at, Listed, listed, head_in, head_at, agent_at, agents_at, token_in, token_at, breach_at, program_at}
 use Rattle.sheets.specs.Rendered.{spaced, render_act, render_acts, render_lines, render_program, Naming}
 use Rattle.sheets.proofs.NameFacts.{index-le}
 use Rattle.sheets.proofs.Namings.{index-found, Extends, extends-self, extends-trans, Numbered, numbered}

@@ -1,15 +1,14 @@
 -- A sheet is read exactly if it is written so. Assumes nothing.
-use Rattle.std.proofs.Common.{◌≡◌, ℕ, suc, ◌+◌, ◌-◌, ◌*◌, ◌^◌, ◌<◌, ◌≤◌, Bool, true, false, cond, not, ◌&&◌, ◌||◌, eqb, ltb, leb, List, [], ◌∷◌, ◌++◌, length, get_or, take, drop, Some, None, Ok, Err, codes, decimal, Option, Result, sym, refl, ap, ◌∙◌, subst, append_assoc, arith, length-drop}
+use Rattle.std.proofs.Common.{◌≡◌, ℕ, ◌+◌, ◌≤◌, Bool, true, false, cond, ltb, List, [], ◌∷◌, ◌++◌, length, drop, Some, None, Ok, Err, codes, decimal, Option, Result, sym, refl, ap, ◌∙◌, subst, arith, length-drop}
 use Rattle.std.specs.Str.{bytes_eq}
 use Rattle.std.proofs.lemmas.List.{drop_all}
 use Rattle.std.proofs.lemmas.Slice.Eq.{bytes_eq-Decides}
 use Rattle.std.proofs.lemmas.Bool.{le-ltb, ltb-false, cond-false}
 use Rattle.sheets.specs.declared.fault.SheetFault.{SheetFault}
-use Rattle.sheets.specs.declared.fault.SheetFault.TheVariants.{TooLong, Misplaced, OutOfRange}
-use Rattle.sheets.specs.Words.{run_at, text_at, Kind, keyword, number, instruction, name, kind_of}
-use Rattle.sheets.specs.Reads.{Got, and_then, only, unnamed, word_at, stop, separator_at, keyword_at, number_at, spaced_at, either_in, either_at, docket_at, Shake, shake_at, program_at, Plan, shake, tokens, Sheet, plan_in, plan_at, end_at, sheet_at, named_of, read_of}
-use Rattle.sheets.specs.Programs.{Program}
-use Rattle.sheets.specs.Rendered.{Between, spaced, render_shake, render_program, render_plan, render, NamesFor, HandshakeIsWithinLimits, PlanIsWithinLimits, IsWithinLimits, IsTextOf, AcceptedIffWritten, TextsTellDocketsApart}
+use Rattle.sheets.specs.declared.fault.SheetFault.TheVariants.{TooLong, Misplaced}
+use Rattle.sheets.specs.Words.{run_at, text_at, Kind, keyword, number, instruction, name}
+use Rattle.sheets.specs.Reads.{Got, and_then, only, unnamed, word_at, separator_at, keyword_at, number_at, spaced_at, either_in, either_at, docket_at, Shake, shake_at, program_at, Plan, shake, tokens, Sheet, plan_in, plan_at, end_at, sheet_at, named_of}
+use Rattle.sheets.specs.Rendered.{Between, spaced, render_shake, render_program, render_plan, render, NamesFor, HandshakeIsWithinLimits, PlanIsWithinLimits, IsWithinLimits, AcceptedIffWritten, TextsTellDocketsApart}
 use Rattle.sheets.proofs.TokenParts.{program-parts}
 use Rattle.sheets.proofs.TokenDone.{program-done}
 use Rattle.sheets.proofs.Lengths.{text-short}

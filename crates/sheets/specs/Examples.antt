@@ -1,10 +1,9 @@
 -- Sheets and what they read as. Assumes nothing.
-use Rattle.std.specs.Prelude.{◌≡◌, ℕ, List, [], ◌∷◌, ◌++◌, length, Ok, Err, codes, Result}
-use Rattle.sheets.specs.declared.fault.SheetFault.{SheetFault}
+use Rattle.std.specs.Prelude.{◌≡◌, ℕ, List, [], ◌∷◌, ◌++◌, length, Ok, Err, codes}
 use Rattle.sheets.specs.declared.fault.SheetFault.TheVariants.{OutOfRange}
 use Rattle.sheets.specs.declared.line.Act.{Act}
 use Rattle.sheets.specs.Programs.{Program}
-use Rattle.sheets.specs.Reads.{Sheet, tokens, read_of}
+use Rattle.sheets.specs.Reads.{tokens, read_of}
 
 abbrev act : ℕ → ℕ → Act
 act s t = record { sign = s; token = t }

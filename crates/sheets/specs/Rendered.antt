@@ -1,5 +1,5 @@
 -- How a sheet is written, and the laws that tie writing and reading. Assumes nothing.
-use Rattle.std.specs.Prelude.{◌≡◌, ℕ, ◌<◌, ◌≤◌, Bool, true, cond, List, [], ◌∷◌, ◌++◌, length, Ok, Err, codes, decimal, ◌≢◌, slice_index_or}
+use Rattle.std.specs.Prelude.{◌≡◌, ℕ, ◌<◌, ◌≤◌, true, cond, List, [], ◌∷◌, ◌++◌, length, Ok, Err, codes, decimal, ◌≢◌, slice_index_or}
 use Rattle.sheets.specs.declared.arrangement.Docket.{Docket}
 use Rattle.sheets.specs.declared.fault.SheetFault.{SheetFault}
 use Rattle.sheets.specs.declared.fault.SheetFault.TheVariants.{TooLong, Misplaced, OutOfRange, Ended}

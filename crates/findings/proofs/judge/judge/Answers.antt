@@ -1,4 +1,4 @@
-use Rattle.std.proofs.Common.{sym, refl, ◌∙◌, arith}
+use Rattle.std.proofs.Common.{refl}
 use Rattle.std.proofs.lemmas.Result.{err_from_is_err_and}
 use Rattle.findings.specs.Judges.{LentTables}
 use Rattle.findings.proofs.Judged.{judge-frame, judge-scenes, judge-stores}

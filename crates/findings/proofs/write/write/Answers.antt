@@ -1,7 +1,5 @@
 use Rattle.std.proofs.Common.{◌≡◌, ◌≤◌, length, sym, ap, ◌∙◌, subst}
-use lib.Seq.{sets}
 use Rattle.examination.specs.Search.{exam_of}
-use Rattle.findings.specs.Frames.{frame_bytes}
 use Rattle.findings.proofs.Written.{short-answer, short-left, answer, left}
 use Rattle.findings.proofs.write.write.Goals as goal
 

@@ -1,4 +1,4 @@
-use Rattle.std.proofs.Common.{sym, refl, ap, ◌∙◌, subst, inl, inr, ⊎_elim, arith}
+use Rattle.std.proofs.Common.{sym, ◌∙◌}
 use Rattle.sheets.proofs.Runs.{all_of-yes, all_of-no, all_of-end, within-yes, within_low, within-high}
 use Rattle.sheets.proofs.words.all_within.Goals as goal
 use Rattle.sheets.proofs.words.all_within.Goals.{then-b-low-via-then-b-low, then-b-low-via-else-b-low+then-b-high}

@@ -1,4 +1,4 @@
-use Rattle.std.proofs.Common.{◌≡◌, ◌-◌, ◌<◌, take, drop, sym, ap, ◌∙◌, arith}
+use Rattle.std.proofs.Common.{◌≡◌, ◌-◌, ◌<◌, take, drop, sym, ap, arith}
 use Rattle.sheets.specs.Words.{run_at}
 use Rattle.sheets.proofs.Runs.{run-within}
 use Rattle.sheets.proofs.words.text_at.Goals as goal

@@ -1,6 +1,6 @@
-use Rattle.std.proofs.Common.{◌≡◌, sym, ap, ◌∙◌, subst}
+use Rattle.std.proofs.Common.{sym, ap, ◌∙◌, subst}
 use Rattle.bodies.specs.declared.kind.Kind.{Kind}
-use Rattle.register.specs.Views.{EntryView, FiledKindIsTrue, stamped}
+use Rattle.register.specs.Views.{FiledKindIsTrue, stamped}
 use Rattle.register.specs.Calls.{contents, hand_back, after_file, marked}
 use Rattle.register.proofs.Plans.{plans-compared}
 use Rattle.register.proofs.Held.{file-sound}

@@ -1,4 +1,4 @@
-use Rattle.std.proofs.Common.{◌≡◌, leb, length, sym, ap, rules}
+use Rattle.std.proofs.Common.{leb, sym, ap}
 use Rattle.sheets.proofs.LineFacts.{length-acts}
 use Rattle.sheets.proofs.line.Line.full.Goals as goal
 
