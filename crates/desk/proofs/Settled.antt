@@ -12,7 +12,7 @@ use Rattle.register.specs.declared.fault.IssueFault.{IssueFault}
 use Rattle.register.specs.declared.fault.IssueFault.TheVariants.{Taken, Full}
 use Rattle.register.specs.declared.fault.FileFault.{FileFault}
 use Rattle.register.specs.declared.fault.Refused.{Refused}
-use Rattle.desk.specs.Handled.{Ended, EndsOneDocket}
+use Rattle.desk.specs.Handled.{Ended, EndsItsDocket}
 
 -- withdrawing ends it
 
@@ -80,11 +80,11 @@ issued-open es t s xs a held =
 
 -- and once it is ended, the sheet is handled
 
-pub handled : (es : List EntryView) (t : List ℕ) (s : Slip) (xs fs : List EntryView) → Ok s ≡ issue_answer es t → xs ≡ issued es t → Ended s.number xs fs → EndsOneDocket es (admits es t) fs
+pub handled : (es : List EntryView) (t : List ℕ) (s : Slip) (xs fs : List EntryView) → Ok s ≡ issue_answer es t → xs ≡ issued es t → Ended s.number xs fs → EndsItsDocket es (admits es t) fs
 handled es t s xs fs a held d =
     let h = admitted-so es s (read_of t) a in
     let list : xs ≡ es ++ (opened h.sheet ∷ []) = held ∙ ap (with_sheet es) h.is in
     let last : fs ≡ es ++ (stamped (opened h.sheet) d.0 ∷ []) =
     d.2 ∙ ap (λ (ys : List EntryView). marked s.number d.0 ys) list ∙ ap (λ (n : ℕ). marked n d.0 (es ++ (opened h.sheet ∷ []))) h.number
     ∙ marked-last h.sheet.number d.0 es (opened h.sheet) refl h.new in
-    subst (λ (r : Result Sheet IssueFault). EndsOneDocket es r fs) (sym h.is) (d.0, d.1, last)
+    subst (λ (r : Result Sheet IssueFault). EndsItsDocket es r fs) (sym h.is) (d.0, d.1, last)

@@ -11,6 +11,6 @@ abbrev pub Ended : ℕ → List EntryView → List EntryView → Type 0
 Ended n es fs = (st : Status) × (is_open st ≡ false) × (fs ≡ marked n st es)
 
 -- the docket of an admitted sheet stands behind the others, filed or withdrawn; a sheet that is not admitted changes nothing
-abbrev pub EndsOneDocket : List EntryView → Result Sheet IssueFault → List EntryView → Type 0
-EndsOneDocket es (Err f) fs = fs ≡ es
-EndsOneDocket es (Ok s) fs = (st : Status) × (is_open st ≡ false) × (fs ≡ es ++ (stamped (opened s) st ∷ []))
+abbrev pub EndsItsDocket : List EntryView → Result Sheet IssueFault → List EntryView → Type 0
+EndsItsDocket es (Err f) fs = fs ≡ es
+EndsItsDocket es (Ok s) fs = (st : Status) × (is_open st ≡ false) × (fs ≡ es ++ (stamped (opened s) st ∷ []))

@@ -2,7 +2,7 @@
 ghost use Rattle.std.specs.Prelude.{◌≡◌, Some as SomeCase};
 ghost use Rattle.register.specs.Views.{EntryView};
 ghost use Rattle.register.specs.Calls.{contents, open_of, admits};
-ghost use Rattle.desk.specs.Handled.{Ended, EndsOneDocket};
+ghost use Rattle.desk.specs.Handled.{Ended, EndsItsDocket};
 
 use crate::examined::{Examined, examine};
 use crate::judging::judged;
@@ -157,7 +157,7 @@ pub fn handle(
     places: u16,
     sheet: &[u8],
 ) -> anyhow::Result<()>
-    ensures { EndsOneDocket (contents register.old) (admits (contents register.old) sheet.now) (contents register.new) }
+    ensures { EndsItsDocket (contents register.old) (admits (contents register.old) sheet.now) (contents register.new) }
 {
     let slip = match register.issue(sheet) {
         Ok(slip) => slip,

@@ -6,7 +6,7 @@ use Rattle.bodies.specs.declared.kind.Kind.{Kind}
 use Rattle.bodies.specs.declared.kind.Kind.TheVariants.{Breach, Closed}
 use Rattle.bodies.specs.Trips.{body_wide}
 use Rattle.findings.specs.declared.frame.Frame.{Frame}
-use Rattle.findings.specs.Frames.{number2, number4, kind_of, kind_byte, finding, kind_of_byte, frame_of, sheet_in, body_in}
+use Rattle.findings.specs.Frames.{number2, number4, kind_of, kind_byte, finding, frame_by_kind, frame_of, sheet_in, body_in}
 
 -- a number comes back from its bytes
 abbrev four : ℕ → ℕ
@@ -61,7 +61,7 @@ module _ (k : Kind) (width n : ℕ) (sheet body : List ℕ) (narrow : width < 65
   pub frame-done : frame_of w ≡ Ok (frame k width n (length sheet))
   frame-done =
       cond-false _ _ _ (le-ltb (length w) 24 (omega (arith, whole_long)))
-      ∙ ap (kind_of_byte w) (kind-back k)
+      ∙ ap (frame_by_kind w) (kind-back k)
       ∙ cond-false _ _ _ (le-ltb 65535 (number4 w 4) (omega (arith, at_count)))
       ∙ cond-false _ _ _ (le-ltb (length w) (24 + number4 w 12) (omega (arith, at-sheet, whole_long)))
       ∙ cond-false _ _ _ (ap not (eq-eqb (number4 w 16) (24 + number4 w 12) (at_body ∙ ap (λ x. 24 + x) (sym at-sheet))))

@@ -46,13 +46,13 @@ fields b k =
     (cond (not (number4 b 20 == number4 b 4 * body_wide (number2 b 2) k) || not (24 + number4 b 12 + number4 b 20 == length b)) (Err 20)
     (Ok (record { kind = k; width = number2 b 2; count = number4 b 4; sheet = number4 b 12 }))))))
 
-abbrev pub kind_of_byte : List ℕ → Option Kind → Result Frame ℕ
-kind_of_byte b None = Err 1
-kind_of_byte b (Some k) = fields b k
+abbrev pub frame_by_kind : List ℕ → Option Kind → Result Frame ℕ
+frame_by_kind b None = Err 1
+frame_by_kind b (Some k) = fields b k
 
 -- the frame, or the offset of the first wrong field; the length itself where it is under 24
 abbrev pub frame_of : List ℕ → Result Frame ℕ
-frame_of b = cond (nat_lt (length b) 24) (Err (length b)) (cond (not (slice_index b 0 == 1)) (Err 0) (kind_of_byte b (kind_of (slice_index b 1))))
+frame_of b = cond (nat_lt (length b) 24) (Err (length b)) (cond (not (slice_index b 0 == 1)) (Err 0) (frame_by_kind b (kind_of (slice_index b 1))))
 
 abbrev pub sheet_in : Frame → List ℕ → List ℕ
 sheet_in f b = take f.sheet (drop 24 b)

@@ -54,18 +54,18 @@ pub record Ending : Type 0 where
 abbrev pub ending : ℕ → Status → Ending
 ending n s = record { number = n; status = s }
 
-abbrev pub filing-ends : Slip → Verdict → Result (Unit {0}) Refused → List Ending
-filing-ends s v (Ok x) = ending s.number (Filed v.kind) ∷ []
-filing-ends s v (Err r) = []
+abbrev pub filing_ends : Slip → Verdict → Result (Unit {0}) Refused → List Ending
+filing_ends s v (Ok x) = ending s.number (Filed v.kind) ∷ []
+filing_ends s v (Err r) = []
 
-abbrev pub withdrawal-ends : Slip → Result (Unit {0}) WithdrawFault → List Ending
-withdrawal-ends s (Ok x) = ending s.number Withdrawn ∷ []
-withdrawal-ends s (Err f) = []
+abbrev pub withdrawal_ends : Slip → Result (Unit {0}) WithdrawFault → List Ending
+withdrawal_ends s (Ok x) = ending s.number Withdrawn ∷ []
+withdrawal_ends s (Err f) = []
 
 abbrev pub ends : List EntryView → Call → List Ending
 ends es (issuing t) = []
-ends es (filing s v) = filing-ends s v (file_answer es s v)
-ends es (withdrawing s) = withdrawal-ends s (withdraw_answer es s)
+ends es (filing s v) = filing_ends s v (file_answer es s v)
+ends es (withdrawing s) = withdrawal_ends s (withdraw_answer es s)
 
 abbrev pub endings : List EntryView → List Call → List Ending
 endings es [] = []

@@ -14,29 +14,29 @@ use Rattle.sheets.proofs.TokenDone.{program-done}
 use Rattle.sheets.proofs.Lengths.{text-short}
 use Rattle.sheets.proofs.Parts.{inj, no, Blank, word_split, Fits, kind_fits, Done, done-then, parts_then, sep-done, sep-parts, word-done, keyword-done, keyword-parts, number-done, number-parts}
 
-abbrev lowe-word : Bool → List ℕ
-lowe-word l = cond l (codes "lowe") (codes "original")
+abbrev lowe_word : Bool → List ℕ
+lowe_word l = cond l (codes "lowe") (codes "original")
 
-either-done : (l : Bool) (b : List ℕ) (at : ℕ) (rest : List ℕ) → Blank rest → drop at b ≡ lowe-word l ++ rest → Done (either_at (codes "original") (codes "lowe") b at) l b rest
+either-done : (l : Bool) (b : List ℕ) (at : ℕ) (rest : List ℕ) → Blank rest → drop at b ≡ lowe_word l ++ rest → Done (either_at (codes "original") (codes "lowe") b at) l b rest
 either-done true b at rest k e = let t = word-done b at (codes "lowe") rest refl k e in (at + run_at b at, ap (either_in (codes "original") (codes "lowe") b at) t.0, t.1)
 either-done false b at rest k e = let t = word-done b at (codes "original") rest refl k e in (at + run_at b at, ap (either_in (codes "original") (codes "lowe") b at) t.0, t.1)
 
-either-parts : (b : List ℕ) (at : ℕ) (z : Bool × ℕ) → either_at (codes "original") (codes "lowe") b at ≡ Ok z → drop at b ≡ lowe-word z.0 ++ drop z.1 b
+either-parts : (b : List ℕ) (at : ℕ) (z : Bool × ℕ) → either_at (codes "original") (codes "lowe") b at ≡ Ok z → drop at b ≡ lowe_word z.0 ++ drop z.1 b
 either-parts b at z e = go (word_at b at) (kind_fits (text_at b at)) e
   where
-    found : (u w : List ℕ) (l : Bool) → bytes_eq u w ≡ true → w ≡ lowe-word l → u ≡ text_at b at → ◌≡◌ {A = Got Bool} (Ok (l, at + run_at b at)) (Ok z) → drop at b ≡ lowe-word z.0 ++ drop z.1 b
+    found : (u w : List ℕ) (l : Bool) → bytes_eq u w ≡ true → w ≡ lowe_word l → u ≡ text_at b at → ◌≡◌ {A = Got Bool} (Ok (l, at + run_at b at)) (Ok z) → drop at b ≡ lowe_word z.0 ++ drop z.1 b
     found u w l s is f h =
         let same = (bytes_eq-Decides u w).0 s in
         let value : l ≡ z.0 = ap (λ v. v.0) (inj h) in
         let next : at + run_at b at ≡ z.1 = ap (λ v. v.1) (inj h) in
-        word_split b at ∙ (λ i. (sym f ∙ same ∙ is ∙ ap lowe-word value) i ++ drop (next i) b)
+        word_split b at ∙ (λ i. (sym f ∙ same ∙ is ∙ ap lowe_word value) i ++ drop (next i) b)
 
-    hit : (u : List ℕ) (s t : Bool) → bytes_eq u (codes "original") ≡ s → bytes_eq u (codes "lowe") ≡ t → u ≡ text_at b at → cond s (Ok (false, at + run_at b at)) (cond t (Ok (true, at + run_at b at)) (Err (Misplaced at))) ≡ Ok z → drop at b ≡ lowe-word z.0 ++ drop z.1 b
+    hit : (u : List ℕ) (s t : Bool) → bytes_eq u (codes "original") ≡ s → bytes_eq u (codes "lowe") ≡ t → u ≡ text_at b at → cond s (Ok (false, at + run_at b at)) (cond t (Ok (true, at + run_at b at)) (Err (Misplaced at))) ≡ Ok z → drop at b ≡ lowe_word z.0 ++ drop z.1 b
     hit u true t e1 e2 f h = found u (codes "original") false e1 refl f h
     hit u false true e1 e2 f h = found u (codes "lowe") true e2 refl f h
     hit u false false e1 e2 f h = no h
 
-    go : (k : Option Kind) → Fits k (text_at b at) → either_in (codes "original") (codes "lowe") b at k ≡ Ok z → drop at b ≡ lowe-word z.0 ++ drop z.1 b
+    go : (k : Option Kind) → Fits k (text_at b at) → either_in (codes "original") (codes "lowe") b at k ≡ Ok z → drop at b ≡ lowe_word z.0 ++ drop z.1 b
     go None f h = no h
     go (Some (keyword u)) f h = hit u (bytes_eq u (codes "original")) (bytes_eq u (codes "lowe")) refl refl f h
     go (Some (number u)) f h = no h
@@ -99,7 +99,7 @@ shake-parts b at z e =
     subst P same (
       (n1.0, n2.0, n3.0),
       n1.1 ∙ ap (spaced (decimal s1.0.0)) (n2.1 ∙ ap (spaced (decimal s2.0.0)) (n3.1 ∙ ap (spaced (decimal s3.0.0))
-          (sep-parts 32 b _ s4.0 s4.1 ∙ ap (λ l. 32 ∷ l) (either-parts b _ s5.0 s5.1 ∙ ap (λ l. lowe-word s5.0.0 ++ l) (sep-parts 10 b _ s6.0 s6.1))))),
+          (sep-parts 32 b _ s4.0 s4.1 ∙ ap (λ l. 32 ∷ l) (either-parts b _ s5.0 s5.1 ∙ ap (λ l. lowe_word s5.0.0 ++ l) (sep-parts 10 b _ s6.0 s6.1))))),
     )
 
 -- what a plan's text says

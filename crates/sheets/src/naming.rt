@@ -2,13 +2,13 @@
 ghost use Rattle.std.specs.Prelude.{◌≡◌, ℕ, ◌+◌, ◌<◌, ◌≤◌, [], length, if◌then◌else◌, Some, None, nat_le};
 ghost use Rattle.std.specs.Str.{bytes_eq};
 ghost use Rattle.std.specs.Option.{option_map};
-ghost use Rattle.sheets.specs.Names.{texts as textsOf, names_of, index_of, with_name, text_of};
+ghost use Rattle.sheets.specs.Names.{texts as texts_of, names_of, index_of, with_name, text_of};
 
 use crate::names::Names;
 use crate::words::same;
 
 fn index(texts: &[&[u8]], text: &[u8]) -> usize
-    ensures { result ≡ index_of (textsOf texts.now) text.now }
+    ensures { result ≡ index_of (texts_of texts.now) text.now }
 {
     for (i, t) in texts.iter().enumerate() {
         if same(*t, text) {

@@ -2,7 +2,7 @@
 ghost use Rattle.std.specs.Prelude.{◌≡◌, ℕ, ◌+◌, drop, if◌then◌else◌, Some, None, nat_le, slice_index};
 ghost use Rattle.std.specs.Str.{bytes_eq};
 ghost use Rattle.sheets.specs.Words.{run_at, text_at, all_of, within, is_name, is_number, is_instruction, is_keyword, kind_of, read_on};
-ghost use Rattle.sheets.specs.Words.{solid as solidByte};
+ghost use Rattle.sheets.specs.Words.{solid as solid_byte};
 ghost use Rattle.sheets.specs.Programs.{sign as sign_code};
 ghost use Rattle.sheets.specs.Reads.{word_in};
 
@@ -27,7 +27,7 @@ pub struct Placed<'a> {
 }
 
 fn solid(b: u8) -> bool
-    ensures { result ≡ solidByte b }
+    ensures { result ≡ solid_byte b }
 {
     b != SPACE && b != LINE_END
 }
