@@ -1,7 +1,7 @@
 -- The number and the values that a fault returns. Assumes nothing.
 use Rattle.std.specs.Prelude.{ℕ}
-use Rattle.bodies.specs.declared.fault.Values.{Values}
-use Rattle.bodies.specs.declared.fault.Values.TheVariants.{Nothing, One, Two}
+use Rattle.faults.specs.declared.Values.{Values}
+use Rattle.faults.specs.declared.Values.TheVariants.{Nothing, One, Two}
 use Rattle.bodies.specs.declared.fault.BodyFault.{BodyFault}
 use Rattle.bodies.specs.declared.fault.BodyFault.TheVariants.{Label, Unbreached, State, Step, Table}
 use Rattle.bodies.specs.declared.fault.WriteFault.{WriteFault}

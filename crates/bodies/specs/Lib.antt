@@ -1,4 +1,5 @@
 pub mod Faults
+pub mod Kinds
 pub mod Judge
 pub mod Acceptance
 pub mod Bodies

@@ -1,10 +1,10 @@
 -- A slip of an open docket is spent, and the docket is then open no more.
-use Rattle.std.proofs.Common.{◌≡◌, ℕ, Bool, true, false, cond, eqb, ltb, List, [], ◌∷◌, ◌++◌, length, is_some, Some, None, Ok, Err, Option, Result, sym, refl, ap, ◌∙◌, subst, arith, eq-eqb}
+use Rattle.std.proofs.Common.{◌≡◌, ℕ, Bool, true, false, cond, eqb, ltb, List, [], ◌∷◌, ◌++◌, length, is_some, Some, None, Ok, Err, Result, sym, refl, ap, ◌∙◌, subst, arith, eq-eqb}
 use Rattle.sheets.specs.declared.fault.SheetFault.{SheetFault}
 use Rattle.sheets.specs.Reads.{Sheet, read_of}
 use Rattle.findings.specs.declared.verdict.Verdict.{Verdict}
 use Rattle.register.specs.Views.{EntryView, stamped}
-use Rattle.register.specs.Calls.{lookup, where_open, open_of, marked, opened, admitted, admits, slip_for, with_sheet, issued, issue_answer, hand_back, file_fault, file_answer, after_file, filed, after_withdraw, withdrawn}
+use Rattle.register.specs.Calls.{lookup, where_open, open_of, marked, opened, admitted, admits, slip_for, with_sheet, issued, issue_answer, hand_back, file_check, file_answer, after_file, filed, after_withdraw, withdrawn}
 use Rattle.register.specs.declared.entry.Status.{Status}
 use Rattle.register.specs.declared.entry.Status.TheVariants.{Withdrawn}
 use Rattle.register.specs.declared.slip.Slip.{Slip}
@@ -21,14 +21,14 @@ by-withdraw es s e o = (Withdrawn, refl, ap (after_withdraw es s) o)
 
 -- a refused filing leaves all as it was and hands the slip back
 
-refused-keeps : (es : List EntryView) (s : Slip) (v : Verdict) (r : Refused) (o : Option FileFault) → Err r ≡ hand_back s v o → (after_file es s v o ≡ es) × (r.slip ≡ s)
-refused-keeps es s v r None e = let z : ◌≡◌ {A = ℕ} 0 1 = cc in absurd (omega arith)
-refused-keeps es s v r (Some f) e = (refl, cc)
+refused-keeps : (es : List EntryView) (s : Slip) (v : Verdict) (r : Refused) (o : Result (Unit {0}) FileFault) → Err r ≡ hand_back s v o → (after_file es s v o ≡ es) × (r.slip ≡ s)
+refused-keeps es s v r (Ok u) e = absurd (cc)
+refused-keeps es s v r (Err f) e = (refl, cc)
 
 pub by-refusal : (es : List EntryView) (s : Slip) (v : Verdict) (r : Refused) (e : EntryView)
     → Err r ≡ file_answer es s v → open_of s.number es ≡ Some e → Ended s.number es (withdrawn (filed es s v) r.slip)
 by-refusal es s v r e a o =
-    let k = refused-keeps es s v r (file_fault es s v) a in
+    let k = refused-keeps es s v r (file_check es s v) a in
     let here : withdrawn (filed es s v) r.slip ≡ withdrawn es s = ap (λ (xs : List EntryView). withdrawn xs r.slip) k.0 ∙ ap (λ (t : Slip). withdrawn es t) k.1 in
     subst (λ (fs : List EntryView). Ended s.number es fs) (sym here) (by-withdraw es s e o)
 

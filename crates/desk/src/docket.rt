@@ -5,7 +5,7 @@ ghost use Rattle.register.specs.Calls.{contents, open_of, admits};
 ghost use Rattle.desk.specs.Handled.{Ended, EndsItsDocket};
 
 use crate::examined::{Examined, examine};
-use crate::judging::judged;
+use crate::judging::judge_in_trees;
 use crate::steps::print_steps;
 use anyhow::anyhow;
 use bodies::kind::Kind;
@@ -13,7 +13,7 @@ use findings::verdict::Verdict;
 use handshake::model::Protocol;
 use listing::lines::{Ending, FaultLine, Head, Tail};
 use register::entry::Status;
-use register::fault::{IssueFault, Refused};
+use register::fault::Refused;
 use register::register::Register;
 use register::slip::Slip;
 use sheets::arrangement::{Arrangement, Docket};
@@ -37,19 +37,23 @@ fn examine_docket(
     }
 }
 
-// The verdict on the finding of an examination, if it has one.
+// The verdict on the finding of an examination, if it has one. The table that fits has a place for each state.
 fn verdict_on(
     heap: Global,
     docket: &Docket,
     places: u16,
     examined: &Examined,
 ) -> anyhow::Result<Option<Verdict>> {
-    match &examined.finding {
-        None => Ok(None),
-        Some(finding) => match judged(heap, docket.arrangement, places, finding.as_slice())? {
-            Ok(verdict) => Ok(Some(verdict)),
-            Err(_) => Err(anyhow!("the finding is refused")),
-        },
+    let Some(finding) = &examined.finding else {
+        return Ok(None);
+    };
+    let (scene_places, store_places) = match docket.arrangement {
+        Arrangement::Handshake(_) => (places, 0),
+        Arrangement::Tokens(_) => (0, places),
+    };
+    match judge_in_trees(heap, scene_places, store_places, finding.as_slice())? {
+        Ok(verdict) => Ok(Some(verdict)),
+        Err(_) => Err(anyhow!("the finding is refused")),
     }
 }
 
@@ -78,14 +82,10 @@ fn settle(register: &mut Register, slip: Slip, verdict: Option<Verdict>)
 
 // How the register shows a docket, with the number of steps or states.
 fn ending(register: &Register, number: u16, steps: usize, states: usize) -> Ending {
-    match register.entry(number) {
-        None => Ending::Exhausted,
-        Some(entry) => match entry.status {
-            Status::Filed(Kind::Breach) => Ending::Breach(steps),
-            Status::Filed(Kind::Closed) => Ending::Closed(states),
-            Status::Open => Ending::Exhausted,
-            Status::Withdrawn => Ending::Exhausted,
-        },
+    match register.entry(number).map(|entry| entry.status) {
+        Some(Status::Filed(Kind::Breach)) => Ending::Breach(steps),
+        Some(Status::Filed(Kind::Closed)) => Ending::Closed(states),
+        _ => Ending::Exhausted,
     }
 }
 
@@ -98,7 +98,6 @@ fn labels_of<'a>(finding: &'a [u8], sheet: &[u8]) -> &'a [u8] {
 // Prints what the register shows of a docket, with the steps of a breach.
 fn print_listing(
     rt: &impl Print,
-    heap: Global,
     register: &Register,
     examined: &Examined,
     sheet: &[u8],
@@ -116,7 +115,7 @@ fn print_listing(
     let ending = ending(register, number, labels.len() / 2, standing.stored);
     rt.println(Head { number, ending })?;
     if let Ending::Breach(_) = ending {
-        print_steps(rt, heap, docket.arrangement, &names, labels)?;
+        print_steps(rt, docket.arrangement, &names, labels)?;
     }
     rt.println(Tail {
         taken: standing.taken,
@@ -141,15 +140,7 @@ fn work_on(heap: Global, places: u16, sheet: &[u8]) -> anyhow::Result<Work> {
     Ok(Work { examined, verdict })
 }
 
-fn print_fault(rt: &impl Print, fault: IssueFault) -> anyhow::Result<()> {
-    rt.println(FaultLine {
-        number: fault.number(),
-        values: fault.values(),
-    })?;
-    Ok(())
-}
-
-// The whole task on one sheet, with so many places; what a fault says is printed alone. No docket is left open.
+/// The whole task on one sheet, with so many places; what a fault says is printed alone. No docket is left open.
 pub fn handle(
     rt: &impl Print,
     heap: Global,
@@ -161,13 +152,13 @@ pub fn handle(
 {
     let slip = match register.issue(sheet) {
         Ok(slip) => slip,
-        Err(fault) => return print_fault(rt, fault),
+        Err(fault) => return Ok(rt.println(FaultLine::of(&fault))?),
     };
     match work_on(heap, places, sheet) {
         Ok(work) => {
             let Work { examined, verdict } = work;
             settle(register, slip, verdict);
-            print_listing(rt, heap, register, &examined, sheet)
+            print_listing(rt, register, &examined, sheet)
         }
         Err(e) => {
             settle(register, slip, None);

@@ -3,5 +3,5 @@
 
 pub mod docket;
 mod examined;
-mod judging;
+pub mod judging;
 mod steps;

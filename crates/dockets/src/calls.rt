@@ -1,16 +1,16 @@
 // Calls that must be refused, each with its fault.
-use crate::cases::judged;
 use anyhow::anyhow;
-use bodies::fault::Values;
+use desk::judging::judge_in_trees;
 use examination::calls::open;
 use examination::exam::Examination;
 use examination::trail::Link;
+use faults::Fault;
 use findings::verdict::Verdict;
 use findings::write::write;
 use listing::lines::FaultLine;
 use meaning::model::Model;
 use meaning::table::Table;
-use register::fault::Refused;
+use register::fault::{FileFault, Refused, WithdrawFault};
 use register::register::Register;
 use register::slip::Slip;
 use sheets::arrangement::Arrangement;
@@ -21,19 +21,14 @@ use tables::Scatter;
 use tokens::model::TokenStore;
 use tokens::state::State;
 
-const START: Link = Link {
-    parent: 0,
-    label: 0,
-};
-
 fn relay() -> &'static [u8] {
     b"docket 7\ntokens\nagent +a -b\nagent -a +c\nbreach c\n"
 }
 
 // Says what was asked, and the fault that was given.
-fn say(rt: &impl Print, what: &str, number: u8, values: Values) -> io::Result<()> {
-    let fault = FaultLine { number, values };
-    println!(rt; "{what}: {fault}")
+fn say(rt: &impl Print, what: &str, fault: &impl Fault) -> io::Result<()> {
+    let line = FaultLine::of(fault);
+    println!(rt; "{what}: {line}")
 }
 
 fn say_open<M: Model, T: Table<State = M::State>>(
@@ -45,7 +40,7 @@ fn say_open<M: Model, T: Table<State = M::State>>(
 ) -> io::Result<()> {
     match open(model, table, trail) {
         Ok(_) => println!(rt; "{what}: opened"),
-        Err(fault) => say(rt, what, fault.number(), Values::Nothing),
+        Err(fault) => say(rt, what, &fault),
     }
 }
 
@@ -60,7 +55,7 @@ fn say_advance<M: Model, T: Table<State = M::State>>(
 ) -> io::Result<()> {
     match exam.advance(model, table, trail, budget) {
         Ok(taken) => println!(rt; "{what}: took {taken}"),
-        Err(fault) => say(rt, what, fault.number(), Values::Nothing),
+        Err(fault) => say(rt, what, &fault),
     }
 }
 
@@ -75,7 +70,7 @@ fn say_write<M: Model, T: Table<State = M::State>>(
 ) -> io::Result<()> {
     match write(exam, model, table, trail, sheet, &mut [0; 78]) {
         Ok(length) => println!(rt; "{what}: wrote {length}"),
-        Err(fault) => say(rt, what, fault.number(), fault.values()),
+        Err(fault) => say(rt, what, &fault),
     }
 }
 
@@ -88,7 +83,7 @@ fn print_opens(rt: &impl Print, model: &TokenStore) -> io::Result<()> {
         "open, a table without places",
         model,
         &mut none,
-        &mut [START; 8],
+        &mut [Link::START; 8],
     )?;
     let mut table = Scatter::new(&mut states, &mut index);
     say_open(
@@ -96,7 +91,7 @@ fn print_opens(rt: &impl Print, model: &TokenStore) -> io::Result<()> {
         "open, a trail that is too short",
         model,
         &mut table,
-        &mut [START; 7],
+        &mut [Link::START; 7],
     )?;
     let _placed = table.put(&model.start());
     say_open(
@@ -104,7 +99,7 @@ fn print_opens(rt: &impl Print, model: &TokenStore) -> io::Result<()> {
         "open, a table that is not empty",
         model,
         &mut table,
-        &mut [START; 8],
+        &mut [Link::START; 8],
     )
 }
 
@@ -132,7 +127,7 @@ fn print_running<M: Model, T: Table<State = M::State>>(
         exam,
         model,
         table,
-        &mut [START; 7],
+        &mut [Link::START; 7],
         1,
     )?;
     say_write(
@@ -170,7 +165,7 @@ fn print_ended<M: Model, T: Table<State = M::State>>(
         exam,
         model,
         table,
-        &[START; 7],
+        &[Link::START; 7],
         relay(),
     )?;
     say_write(
@@ -187,7 +182,7 @@ fn print_ended<M: Model, T: Table<State = M::State>>(
 fn print_advances(rt: &impl Print, model: &TokenStore) -> anyhow::Result<()> {
     let mut states = [model.start(); 8];
     let mut index = [0; 16];
-    let mut trail = [START; 8];
+    let mut trail = [Link::START; 8];
     let mut table = Scatter::new(&mut states, &mut index);
     let Ok(opened) = open(model, &mut table, &mut trail) else {
         return Err(anyhow!("no examination can be opened"));
@@ -205,25 +200,34 @@ fn say_issue(rt: &impl Print, what: &str, register: &mut Register, sheet: &[u8])
             let _ = register.withdraw(slip);
             println!(rt; "{what}: issued")
         }
-        Err(fault) => say(rt, what, fault.number(), fault.values()),
+        Err(fault) => say(rt, what, &fault),
     }
 }
 
-// Files a verdict and then withdraws the slip that comes back; the fault's number of each, or 0.
-fn file_and_withdraw(register: &mut Register, slip: Slip, verdict: Verdict) -> (u8, u8) {
+// Files a verdict, and withdraws the slip that comes back where it is refused: the fault of each.
+fn file_and_withdraw(
+    register: &mut Register,
+    slip: Slip,
+    verdict: Verdict,
+) -> (Option<FileFault>, Option<WithdrawFault>) {
     match register.file(slip, verdict) {
-        Ok(()) => (0, 0),
+        Ok(()) => (None, None),
         Err(refused) => {
             let Refused {
                 fault,
                 slip,
                 verdict: _,
             } = refused;
-            match register.withdraw(slip) {
-                Ok(()) => (fault.number(), 0),
-                Err(second) => (fault.number(), second.number()),
-            }
+            (Some(fault), register.withdraw(slip).err())
         }
+    }
+}
+
+// Says what was asked, and the fault that was given, if one was.
+fn say_answer<F: Fault + Drop>(rt: &impl Print, what: &str, fault: Option<F>) -> io::Result<()> {
+    match fault {
+        Some(fault) => say(rt, what, &fault),
+        None => println!(rt; "{what}: accepted"),
     }
 }
 
@@ -233,7 +237,7 @@ fn relay_finding() -> &'static [u8] {
 }
 
 fn verdict_of(heap: Global) -> anyhow::Result<Verdict> {
-    match judged(heap, 8, relay_finding())? {
+    match judge_in_trees(heap, 8, 8, relay_finding())? {
         Ok(verdict) => Ok(verdict),
         Err(_) => Err(anyhow!("the finding is refused")),
     }
@@ -261,33 +265,18 @@ fn print_register(rt: &impl Print, heap: Global) -> anyhow::Result<()> {
     let first = verdict_of(heap)?;
     let second = verdict_of(heap)?;
     let mut other = Register::new();
-    let elsewhere = match register.issue(relay()) {
+    let (filed, withdrawn) = match register.issue(relay()) {
         Ok(slip) => file_and_withdraw(&mut other, slip, first),
-        Err(_) => (0, 0),
+        Err(_) => (None, None),
     };
     say_issue(rt, "issue, a number that is there", &mut register, relay())?;
-    say(
-        rt,
-        "file, in another register",
-        elsewhere.0,
-        Values::Nothing,
-    )?;
-    say(
-        rt,
-        "withdraw, in another register",
-        elsewhere.1,
-        Values::Nothing,
-    )?;
-    let mixed = match register.issue(b"docket 8\nhandshake 1 1 1 lowe\n") {
+    say_answer(rt, "file, in another register", filed)?;
+    say_answer(rt, "withdraw, in another register", withdrawn)?;
+    let (mixed, _) = match register.issue(b"docket 8\nhandshake 1 1 1 lowe\n") {
         Ok(slip) => file_and_withdraw(&mut register, slip, second),
-        Err(_) => (0, 0),
+        Err(_) => (None, None),
     };
-    say(
-        rt,
-        "file, a verdict of another number",
-        mixed.0,
-        Values::Nothing,
-    )?;
+    say_answer(rt, "file, a verdict of another number", mixed)?;
     fill(heap, &mut other)?;
     say_issue(
         rt,

@@ -14,13 +14,9 @@ fn main(rt: HostRuntime) -> anyhow::Result<()> {
     let mut text = Vec::new(heap);
     rt.stdin().read_to_end(&mut text)?;
     print_calls(&rt, heap)?;
-    let mut start = 0;
-    for (i, b) in text.as_slice().iter().enumerate() {
-        if *b == b'\n' {
-            if start <= i {
-                print_case(&rt, heap, &text.as_slice()[start..i])?;
-            }
-            start = i + 1;
+    for line in text.as_slice().split_inclusive(|b| *b == b'\n') {
+        if let Some(case) = line.strip_suffix(b"\n") {
+            print_case(&rt, heap, case)?;
         }
     }
     Ok(())

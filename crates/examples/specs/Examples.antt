@@ -17,7 +17,7 @@ use Rattle.examination.specs.declared.fault.AdvanceFault.{AdvanceFault}
 use Rattle.examination.specs.Search.{Exam, Search, exam, link, opened}
 use Rattle.examination.specs.Calls.{Taking, opening, advancing, advance_answer, after}
 use Rattle.bodies.specs.declared.kind.Kind.TheVariants.{Breach as ByRun, Closed as ByStates}
-use Rattle.bodies.specs.declared.fault.Values.TheVariants.{One, Two}
+use Rattle.faults.specs.declared.Values.TheVariants.{One, Two}
 use Rattle.bodies.specs.declared.fault.BodyFault.TheVariants.{Label, Step}
 use Rattle.bodies.specs.declared.fault.WriteFault as bodies
 use Rattle.bodies.specs.Faults.{judge_number, judge_values}

@@ -2,7 +2,7 @@
 use Rattle.std.proofs.Common.{◌≡◌, ℕ, ◌*◌, ◌<◌, ◌≤◌, Bool, true, false, cond, List, [], length, Some, Ok, Err, Result, sym, refl, ap, ◌∙◌, subst, mul-le-mul, arith}
 use mathlib.Core.HLevel.{is_prop→PathP}
 use native.Mathlib.Bridge.{le_prop}
-use Rattle.std.proofs.lemmas.Bool.{cond-true, cond-false, le-ltb, eq-eqb, and_from, not_from_false}
+use Rattle.std.proofs.lemmas.Bool.{cond-false, le-ltb}
 use Rattle.sheets.specs.declared.arrangement.Arrangement.{Arrangement}
 use Rattle.sheets.specs.declared.arrangement.Arrangement.TheVariants.{Handshake, Tokens}
 use Rattle.sheets.specs.declared.arrangement.Handshake as shake
@@ -35,10 +35,11 @@ use Rattle.bodies.specs.Trips.{kind_of, body_wide, given, BodyIsAccepted}
 use Rattle.bodies.proofs.Trips.{bodies-stand}
 use Rattle.findings.specs.declared.frame.Frame as frame
 use Rattle.findings.specs.Frames.{finding, frame_of, sheet_in, body_in}
-use Rattle.findings.specs.Writes.{in_frame, of_kind, fitting, finding_of}
+use Rattle.findings.specs.Writes.{of_kind, fitting, finding_of}
 use Rattle.findings.specs.Judges.{plain_verdict, passing, LentTables, Judging, by_model, by_sheet, by_frame, ReadIn, IsJudged}
 use Rattle.findings.specs.Stands.{frame_as, IsFindingOf, EndedSearchesHaveFindings, JudgedAsWritten, EmptyScenes, EmptyStores, JudgeAcceptsWhatIsWritten}
 use Rattle.findings.proofs.Framed.{frame-done, sheet-done, body-done}
+use Rattle.findings.proofs.Written.{found-by}
 use Rattle.findings.proofs.Trailed.{row-long, opened-long}
 
 open-parts : {S : Type 0} (b : Bool) (o x : Search S) → cond b (Ok o) (Err Unfit) ≡ Ok x → (b ≡ true) × (o ≡ x)
@@ -70,15 +71,9 @@ module _ {S : Type 0} (m : Meaning S) (code : S → List ℕ) (width : ℕ) (law
     trail : places ≤ length (row m code places bs (opened m code places ts)).trail
     trail = omega (arith, row-long m code places bs (opened m code places ts), opened-long m code places ts)
 
-    fits : fitting places z.list z.trail z.exam ≡ true
-    fits = and_from _ _ (eq-eqb (length z.list) z.exam.stored (sym numbers.stored)) (not_from_false _ (le-ltb (length z.trail) places trail))
-
     found : finding_of code width places z.list z.trail z.exam sheet ≡ Ok (finding k width b.number sheet b.bytes)
     found =
-        cond-false _ _ _ (le-ltb 2048 (length sheet) short)
-        ∙ ap (λ o. of_kind o (fitting places z.list z.trail z.exam) width sheet (body_of code z.list z.trail z.exam.outcome)) ends
-        ∙ cond-true _ _ _ fits
-        ∙ ap (in_frame k width sheet) ((bodies-stand m code width laws codes reads).told places ts bs k some wide ends)
+        found-by code width places z.list z.trail z.exam sheet k b short ends (sym numbers.stored) trail ((bodies-stand m code width laws codes reads).told places ts bs k some wide ends)
 
     few : b.number ≤ 65535
     few = let f = trip.few in let r = numbers.room in omega (arith, f, r)

@@ -1,9 +1,11 @@
 -- The frame of a finding. Numbers have the highest byte first. Assumes nothing.
-use Rattle.std.specs.Prelude.{ℕ, ◌+◌, ◌*◌, ◌/◌, ◌%◌, cond, not, ◌||◌, List, [], ◌∷◌, ◌++◌, length, take, drop, Some, None, Ok, Err, Option, Result, ◌==◌, nat_lt, slice_index}
+use Rattle.std.specs.Prelude.{ℕ, ◌+◌, ◌*◌, ◌/◌, ◌%◌, cond, not, ◌||◌, List, [], ◌∷◌, ◌++◌, length, take, drop, Ok, Err, Result, ◌==◌, nat_lt, slice_index}
 use Rattle.bodies.specs.declared.kind.Kind.{Kind}
-use Rattle.bodies.specs.declared.kind.Kind.TheVariants.{Breach, Closed}
+use Rattle.bodies.specs.declared.kind.UnknownKind.{UnknownKind}
+use Rattle.bodies.specs.Kinds.{kind_byte, kind_told}
 use Rattle.bodies.specs.Trips.{body_wide}
 use Rattle.findings.specs.declared.frame.Frame.{Frame}
+use Rattle.findings.specs.declared.frame.FrameFault.{FrameFault}
 
 -- the number of two or four bytes at a place
 abbrev pub number2 : List ℕ → ℕ → ℕ
@@ -19,14 +21,6 @@ bytes2 n = n / 256 % 256 ∷ n % 256 ∷ []
 abbrev pub bytes4 : ℕ → List ℕ
 bytes4 n = n / 16777216 % 256 ∷ n / 65536 % 256 ∷ n / 256 % 256 ∷ n % 256 ∷ []
 
--- byte 1: 1 breach, 2 closed
-abbrev pub kind_of : ℕ → Option Kind
-kind_of b = cond (b == 1) (Some Breach) (cond (b == 2) (Some Closed) None)
-
-abbrev pub kind_byte : Kind → ℕ
-kind_byte Breach = 1
-kind_byte Closed = 2
-
 -- edition 1, the kind, the width, the count, and two pairs of offset and length: the sheet at 24, and the body behind it
 abbrev pub frame_bytes : Kind → ℕ → ℕ → ℕ → ℕ → List ℕ
 frame_bytes k width n sheet body =
@@ -36,23 +30,26 @@ frame_bytes k width n sheet body =
 abbrev pub finding : Kind → ℕ → ℕ → List ℕ → List ℕ → List ℕ
 finding k width n sheet body = frame_bytes k width n (length sheet) (length body) ++ (sheet ++ body)
 
+abbrev pub fault_at : ℕ → FrameFault
+fault_at offset = record { 0 = offset }
+
 -- the kind, tested after byte 0, and then the fields in the order of their offsets; the first that is wrong by itself or by those before it
-abbrev pub fields : List ℕ → Kind → Result Frame ℕ
+abbrev pub fields : List ℕ → Kind → Result Frame FrameFault
 fields b k =
-    cond (nat_lt 65535 (number4 b 4)) (Err 4)
-    (cond (not (number4 b 8 == 24)) (Err 8)
-    (cond (nat_lt (length b) (24 + number4 b 12)) (Err 12)
-    (cond (not (number4 b 16 == 24 + number4 b 12)) (Err 16)
-    (cond (not (number4 b 20 == number4 b 4 * body_wide (number2 b 2) k) || not (24 + number4 b 12 + number4 b 20 == length b)) (Err 20)
+    cond (nat_lt 65535 (number4 b 4)) (Err (fault_at 4))
+    (cond (not (number4 b 8 == 24)) (Err (fault_at 8))
+    (cond (nat_lt (length b) (24 + number4 b 12)) (Err (fault_at 12))
+    (cond (not (number4 b 16 == 24 + number4 b 12)) (Err (fault_at 16))
+    (cond (not (number4 b 20 == number4 b 4 * body_wide (number2 b 2) k) || not (24 + number4 b 12 + number4 b 20 == length b)) (Err (fault_at 20))
     (Ok (record { kind = k; width = number2 b 2; count = number4 b 4; sheet = number4 b 12 }))))))
 
-abbrev pub frame_by_kind : List ℕ → Option Kind → Result Frame ℕ
-frame_by_kind b None = Err 1
-frame_by_kind b (Some k) = fields b k
+abbrev pub frame_by_kind : List ℕ → Result Kind UnknownKind → Result Frame FrameFault
+frame_by_kind b (Err u) = Err (fault_at 1)
+frame_by_kind b (Ok k) = fields b k
 
 -- the frame, or the offset of the first wrong field; the length itself where it is under 24
-abbrev pub frame_of : List ℕ → Result Frame ℕ
-frame_of b = cond (nat_lt (length b) 24) (Err (length b)) (cond (not (slice_index b 0 == 1)) (Err 0) (frame_by_kind b (kind_of (slice_index b 1))))
+abbrev pub frame_of : List ℕ → Result Frame FrameFault
+frame_of b = cond (nat_lt (length b) 24) (Err (fault_at (length b))) (cond (not (slice_index b 0 == 1)) (Err (fault_at 0)) (frame_by_kind b (kind_told (slice_index b 1))))
 
 abbrev pub sheet_in : Frame → List ℕ → List ℕ
 sheet_in f b = take f.sheet (drop 24 b)

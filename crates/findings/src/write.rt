@@ -1,12 +1,11 @@
 // Writing the finding of an examination.
-ghost use Rattle.std.specs.Prelude.{◌≡◌, ◌+◌, ◌≤◌, length};
-ghost use Rattle.std.proofs.lemmas.List.Edits.{sets};
+ghost use Rattle.std.specs.Prelude.{◌≡◌, length};
 ghost use Rattle.examination.specs.Search.{exam_of};
 ghost use Rattle.bodies.specs.Trips.{kind_of};
 ghost use Rattle.findings.specs.Writes.{finding_of, write_answer, write_left};
 
 use crate::fault::WriteFault;
-use crate::frame::{Frame, put_frame};
+use crate::frame::{FRAME_LENGTH, Frame, put_bytes};
 use bodies::kind::Kind;
 use bodies::measure::body_size;
 use bodies::write::write_body;
@@ -17,7 +16,10 @@ use meaning::coded::Coded;
 use meaning::model::Model;
 use meaning::table::Table;
 
-// The kind of finding that an outcome gives, if any.
+// As many bytes as a sheet may have.
+const SHEET_MOST: usize = 2048;
+
+// The kind of finding that an outcome gives, if any. Both types are other crates', so this is no From.
 fn kind_of(outcome: Outcome) -> Option<Kind>
     ensures { result ≡ kind_of outcome }
 {
@@ -27,14 +29,6 @@ fn kind_of(outcome: Outcome) -> Option<Kind>
         Outcome::Closed => Some(Kind::Closed),
         Outcome::Exhausted => None,
     }
-}
-
-// Copies bytes to a place of a buffer.
-fn put_bytes(out: &mut [u8], at: usize, bytes: &[u8])
-    requires { at + length bytes.now ≤ length out.old }
-    ensures { out.new ≡ sets out.old at bytes.now }
-{
-    out[at..at + bytes.len()].copy_from_slice(bytes);
 }
 
 // Writes the finding of an examination at the start of a buffer, and leaves the rest of it; answers how long it is.
@@ -49,7 +43,7 @@ pub fn write<M: Model, T: Table<State = M::State>>(
     ensures answer { result ≡ write_answer (length out.old) (finding_of M.State.Coded.code M.State.Coded.width (T.room table.now) (T.list table.now) trail.now (exam_of exam.now) sheet.now) }
     ensures out { out.new ≡ write_left out.old (finding_of M.State.Coded.code M.State.Coded.width (T.room table.now) (T.list table.now) trail.now (exam_of exam.now) sheet.now) }
 {
-    if sheet.len() > 2048 {
+    if sheet.len() > SHEET_MOST {
         return Err(WriteFault::Long);
     }
     let outcome = exam.outcome();
@@ -60,19 +54,19 @@ pub fn write<M: Model, T: Table<State = M::State>>(
         return Err(WriteFault::Mismatch);
     }
     let size = body_size(model, table, trail, outcome)?;
-    let start = 24 + sheet.len();
+    let start = FRAME_LENGTH + sheet.len();
     let needed = start + size.length;
     if out.len() < needed {
         return Err(WriteFault::Short(needed));
     }
     let frame = Frame {
         kind,
-        width: model.code_width(),
-        count: size.number,
-        sheet: sheet.len(),
+        width: model.code_width() as u16,
+        count: size.number as u32,
+        sheet: sheet.len() as u32,
     };
-    put_frame(out, frame, size.length);
-    put_bytes(out, 24, sheet);
+    frame.put(out, size.length as u32);
+    put_bytes(out, FRAME_LENGTH, sheet);
     write_body(model, table, trail, outcome, out, start as u16)?;
     Ok(needed)
 }

@@ -9,3 +9,4 @@ pub mod Steps
 pub mod Codes
 pub mod Model
 pub mod Reads
+pub mod Compared

@@ -4,7 +4,6 @@ pub mod Receives
 pub mod Labels
 pub mod Lawful
 pub mod Steps
-pub mod Words
 pub mod States
 pub mod Reads
 pub mod Known

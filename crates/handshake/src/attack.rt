@@ -8,11 +8,5 @@ pub fn attack() -> [usize; 10]
     ensures labels { result ≡ attack_labels }
     ensures stands { Attack }
 {
-    labels()
-}
-
-fn labels() -> [usize; 10]
-    ensures { result ≡ attack_labels }
-{
     [0, 12, 79, 16, 12, 20, 16, 12, 388, 16]
 }

@@ -1,8 +1,8 @@
 -- The bytes of each line of a listing. Assumes nothing.
 use Rattle.std.specs.Prelude.{ℕ, List, [], ◌++◌, codes, decimal}
 use Rattle.std.proofs.Math.Utf8.{encode}
-use Rattle.bodies.specs.declared.fault.Values.{Values}
-use Rattle.bodies.specs.declared.fault.Values.TheVariants.{Nothing, One, Two}
+use Rattle.faults.specs.declared.Values.{Values}
+use Rattle.faults.specs.declared.Values.TheVariants.{Nothing, One, Two}
 use Rattle.listing.specs.declared.lines.Ending.{Ending}
 use Rattle.listing.specs.declared.lines.Ending.TheVariants.{Breach, Closed, Exhausted}
 

@@ -2,11 +2,11 @@
 ghost use Rattle.std.specs.Prelude.{◌≡◌, Some};
 ghost use Rattle.listing.specs.Lines.{ending_text, head_text, instruction_text, rule_text, tail_text, fault_text};
 
-use bodies::fault::Values;
+use faults::{Fault, Values};
 use std::fmt;
 
-// How an examination ended: a breach after so many steps; closed with so many states; no place left.
-#[derive(Clone, Copy)]
+/// How an examination ended: a breach after so many steps; closed with so many states; no place left.
+#[derive(Clone, Copy, Debug, PartialEq, Eq)]
 pub enum Ending {
     Breach(usize),
     Closed(usize),
@@ -25,8 +25,8 @@ impl fmt::Display for Ending {
     }
 }
 
-// The first line: the docket's number, and how its examination ended.
-#[derive(Clone, Copy)]
+/// The first line: the docket's number, and how its examination ended.
+#[derive(Clone, Copy, Debug, PartialEq, Eq)]
 pub struct Head {
     pub number: u16,
     pub ending: Ending,
@@ -42,8 +42,8 @@ impl fmt::Display for Head {
     }
 }
 
-// A step of a token store: its number from 1, its label, and the instruction that it performs.
-#[derive(Clone, Copy)]
+/// A step of a token store: its number from 1, its label, and the instruction that it performs.
+#[derive(Clone, Copy, Debug, PartialEq, Eq)]
 pub struct InstructionLine<'a> {
     pub step: usize,
     pub label: usize,
@@ -63,8 +63,8 @@ impl<'a> fmt::Display for InstructionLine<'a> {
     }
 }
 
-// A step of a handshake: its number from 1, its label, its rule's letter, and how many nonces the intruder knows after it.
-#[derive(Clone, Copy)]
+/// A step of a handshake: its number from 1, its label, its rule's letter, and how many nonces the intruder knows after it.
+#[derive(Clone, Copy, Debug, PartialEq, Eq)]
 pub struct RuleLine {
     pub step: usize,
     pub label: usize,
@@ -84,8 +84,8 @@ impl fmt::Display for RuleLine {
     }
 }
 
-// The last line: how many states were taken, and how many stored.
-#[derive(Clone, Copy)]
+/// The last line: how many states were taken, and how many stored.
+#[derive(Clone, Copy, Debug, PartialEq, Eq)]
 pub struct Tail {
     pub taken: usize,
     pub stored: usize,
@@ -101,11 +101,25 @@ impl fmt::Display for Tail {
     }
 }
 
-// A refusal: the fault's number, and its values, if it has any.
-#[derive(Clone, Copy)]
+/// A refusal: the fault's number, and its values, if it has any.
+#[derive(Clone, Copy, Debug, PartialEq, Eq)]
 pub struct FaultLine {
     pub number: u8,
     pub values: Values,
+}
+
+impl FaultLine {
+    ghost use Rattle.listing.specs.FaultLines.{line_of};
+
+    /// The line that tells this fault.
+    pub fn of<F: Fault>(fault: &F) -> FaultLine
+        ensures { result ≡ line_of (F.number_of fault.now) (F.values_of fault.now) }
+    {
+        FaultLine {
+            number: fault.number(),
+            values: fault.values(),
+        }
+    }
 }
 
 impl fmt::Display for FaultLine {

@@ -1,7 +1,10 @@
--- A mark's code, its scatter number, and the laws of its code. Assumes nothing.
-use Rattle.std.specs.Prelude.{◌≡◌, ℕ, ◌*◌, ◌/◌, ◌%◌, ◌^◌, List, [], ◌∷◌, refl}
+-- A mark's code, its scatter number, and its laws, which stand here since the impl cites them and can't cite this crate's proofs/. Assumes nothing.
+use Rattle.std.specs.Prelude.{◌≡◌, ℕ, ◌*◌, ◌/◌, ◌%◌, ◌^◌, List, [], ◌∷◌, ◌==◌, refl}
 use Rattle.std.proofs.Common.{ap, arith, lit≤}
-use Rattle.meaning.specs.Codes.{IsCode}
+use Rattle.std.specs.Ordering.{nat_cmp, on}
+use Rattle.std.specs.Str.{bytes_eq}
+use Rattle.std.proofs.lemmas.Bool.Decides.{nat_tests}
+use Rattle.meaning.specs.Codes.{IsCode, ComparesCodes, code_order}
 use Rattle.puts.specs.declared.mark.Mark.{Mark}
 
 -- two bytes, the high one first
@@ -26,3 +29,12 @@ mark_laws = record {
   wide = λ s. refl;
   narrow = lit≤ tt;
 }
+
+same-number : (x y : ℕ) → (x == y) ≡ bytes_eq (x / 256 ∷ x % 256 ∷ []) (y / 256 ∷ y % 256 ∷ [])
+same-number x y = grind (arith, nat_tests)
+
+order-number : (x y : ℕ) → nat_cmp x y ≡ code_order (x / 256 ∷ x % 256 ∷ []) (y / 256 ∷ y % 256 ∷ [])
+order-number x y = grind (arith, nat_tests)
+
+pub mark_compared : ComparesCodes mark_code (λ a b. a.number == b.number) (on (λ (m : Mark). m.number) nat_cmp)
+mark_compared = record { same = λ a b. same-number a.number b.number; order = λ a b. order-number a.number b.number }

@@ -5,12 +5,18 @@ use mark::Mark;
 use meaning::table::{Placed, Table};
 use std::alloc::{AllocError, Global};
 use std::io;
-use tables::{Scatter, Tree, put_both};
+use tables::{Laid, Scatter, Slotted, Tree, put_both};
 
 mod mark;
 
 // As many states as a table can have places.
 const STATES: u16 = 65535;
+
+// An index that is half full at the end.
+const INDEX_SLOTS: usize = 131070;
+
+// A slot for the root, and two for each state.
+const TREE_LINKS: usize = 131071;
 
 // What a row of puts cost: comparisons in all, and of the put that made most.
 #[derive(Clone, Copy)]
@@ -48,9 +54,9 @@ struct Memory {
 
 impl Memory {
     fn new(heap: Global, slots: usize) -> Result<Memory, AllocError> {
-        let entries = vec![in heap; Mark { number: 0 }; 65535]?;
+        let entries = vec![in heap; Mark { number: 0 }; STATES as usize]?;
         let slots = vec![in heap; 0u32; slots]?;
-        let answers = vec![in heap; Placed::Exhausted; 65535]?;
+        let answers = vec![in heap; Placed::Exhausted; STATES as usize]?;
         Ok(Memory {
             entries,
             slots,
@@ -61,23 +67,11 @@ impl Memory {
 
 // The states in rising order.
 fn row(heap: Global) -> Result<Vec<Mark>, AllocError> {
-    let mut marks = Vec::new(heap);
-    for number in 0..STATES {
-        marks.push(Mark { number })?;
-    }
-    Ok(marks)
+    (0..STATES).map(|number| Mark { number }).collect(heap)
 }
 
-fn scatter_cost(table: &mut Scatter<Mark>, row: &[Mark]) -> Cost {
-    let mut cost = Cost::new();
-    for s in row {
-        cost.count(table.probes(s));
-        let _placed = table.put(s);
-    }
-    cost
-}
-
-fn tree_cost(table: &mut Tree<Mark>, row: &[Mark]) -> Cost {
+// Puts a row of states in a table, and counts what each put compares.
+fn put_all<L: Laid>(table: &mut Slotted<Mark, L>, row: &[Mark]) -> Cost {
     let mut cost = Cost::new();
     for s in row {
         cost.count(table.probes(s));
@@ -87,35 +81,23 @@ fn tree_cost(table: &mut Tree<Mark>, row: &[Mark]) -> Cost {
 }
 
 // Puts the row twice in each table, and once more in both.
-fn measure(
-    rt: &impl Print,
-    scatter: &mut Scatter<Mark>,
-    tree: &mut Tree<Mark>,
-    row: &[Mark],
-    first: &mut [Placed],
-    second: &mut [Placed],
-) -> io::Result<()> {
-    scatter_cost(scatter, row).print(rt, "scattering table, new states")?;
-    scatter_cost(scatter, row).print(rt, "scattering table, held states")?;
-    tree_cost(tree, row).print(rt, "search tree, new states")?;
-    tree_cost(tree, row).print(rt, "search tree, held states")?;
-    let both = put_both(scatter, tree, row, first, second);
+fn measure(rt: &impl Print, row: &[Mark], one: &mut Memory, two: &mut Memory) -> io::Result<()> {
+    let mut scatter = Scatter::new(one.entries.as_mut_slice(), one.slots.as_mut_slice());
+    let mut tree = Tree::new(two.entries.as_mut_slice(), two.slots.as_mut_slice());
+    put_all(&mut scatter, row).print(rt, "scattering table, new states")?;
+    put_all(&mut scatter, row).print(rt, "scattering table, held states")?;
+    put_all(&mut tree, row).print(rt, "search tree, new states")?;
+    put_all(&mut tree, row).print(rt, "search tree, held states")?;
+    let first = one.answers.as_mut_slice();
+    let second = two.answers.as_mut_slice();
+    let both = put_both(&mut scatter, &mut tree, row, first, second);
     println!(rt; "put once more in both: {both}")
 }
 
 fn main(rt: HostRuntime) -> io::Result<()> {
     let heap = rt.alloc();
     let marks = row(heap)?;
-    let mut one = Memory::new(heap, 131070)?;
-    let mut two = Memory::new(heap, 131071)?;
-    let mut scatter = Scatter::new(one.entries.as_mut_slice(), one.slots.as_mut_slice());
-    let mut tree = Tree::new(two.entries.as_mut_slice(), two.slots.as_mut_slice());
-    measure(
-        &rt,
-        &mut scatter,
-        &mut tree,
-        marks.as_slice(),
-        one.answers.as_mut_slice(),
-        two.answers.as_mut_slice(),
-    )
+    let mut one = Memory::new(heap, INDEX_SLOTS)?;
+    let mut two = Memory::new(heap, TREE_LINKS)?;
+    measure(&rt, marks.as_slice(), &mut one, &mut two)
 }

@@ -1,10 +1,15 @@
 // A small kind of state: a number under 65,536.
-ghost use Rattle.puts.specs.Marks.{mark_code, mark_scattered, mark_laws};
+ghost use Rattle.puts.specs.Marks.{mark_code, mark_scattered, mark_laws, mark_compared};
 
 use meaning::coded::Coded;
-use std::cmp::Ordering;
 
-#[derive(Clone, Copy)]
+// Its multiples spread the numbers.
+const SPREAD: usize = 2654435761;
+
+// The largest prime under 2^32.
+const PRIME: usize = 4294967291;
+
+#[derive(Clone, Copy, Debug, PartialEq, Eq, PartialOrd, Ord)]
 pub struct Mark {
     pub number: u16,
 }
@@ -18,30 +23,14 @@ impl Coded for Mark {
 
     ghost laws = { mark_laws };
 
-    fn same(&self, other: &Mark) -> bool {
-        self.number == other.number
-    }
-
-    fn order(&self, other: &Mark) -> Ordering {
-        if self.number < other.number {
-            Ordering::Less
-        } else if other.number < self.number {
-            Ordering::Greater
-        } else {
-            Ordering::Equal
-        }
-    }
+    ghost compared = { mark_compared };
 
     fn scatter(&self) -> usize {
-        let spread = self.number as usize * 2654435761 % 4294967291;
-        spread.wrapping_mul(spread) % 4294967291
+        let spread = self.number as usize * SPREAD % PRIME;
+        spread.wrapping_mul(spread) % PRIME
     }
 
     fn byte(&self, k: usize) -> u8 {
-        match k {
-            0 => (self.number / 256) as u8,
-            1 => (self.number % 256) as u8,
-            _ => 0,
-        }
+        self.number.to_be_bytes().get(k).copied().unwrap_or(0)
     }
 }

@@ -1,23 +1,25 @@
 -- What is filed is true: of each entry that a register holds.
-use Rattle.std.proofs.Common.{◌≡◌, ℕ, zero, suc, ◌+◌, ◌<◌, Bool, true, false, cond, ◌&&◌, eqb, List, [], ◌∷◌, ◌++◌, get_or, take, set, Some, None, Option, sym, refl, ap, ◌∙◌, subst, arith}
+use Rattle.std.proofs.Common.{◌≡◌, ℕ, zero, suc, Bool, true, false, cond, ◌&&◌, eqb, List, [], ◌∷◌, ◌++◌, Some, None, Ok, Err, Option, Result, sym, refl, ap, ◌∙◌, subst, arith}
 use mathlib.Core.Logic.{∥∥₁_elim, ∥∥₁_map}
 use Rattle.std.specs.List.{slice_get}
 use Rattle.std.proofs.lemmas.Bool.{and_parts}
+use Rattle.std.proofs.lemmas.List.{map_push}
+use Rattle.sheets.specs.FixedLists.{held}
 use Rattle.sheets.specs.Reads.{Sheet, plan_of}
 use Rattle.bodies.specs.declared.kind.Kind.{Kind}
 use Rattle.findings.specs.declared.verdict.Verdict.{Verdict}
 use Rattle.findings.specs.Truths.{IsTrueOf}
 use Rattle.register.specs.Plans.{same_plan}
 use Rattle.register.specs.Views.{EntryView, view_of, views_of, is_open, stamped, FiledKindIsTrue, EachIsTrue}
-use Rattle.register.specs.Calls.{contents, lookup, place_of, where_open, open_of, marked, fault_at, file_fault, opened}
+use Rattle.register.specs.Calls.{contents, lookup, where_open, open_of, marked, viewed, ShownKindIsTrue, checked_at, file_check, opened}
 use Rattle.register.proofs.Plans.{plan-equal, truth-carries}
-use Rattle.register.proofs.Places.{written, mark-is, push-is}
 use Rattle.register.specs.declared.entry.Status.{Status}
 use Rattle.register.specs.declared.entry.Status.TheVariants.{Open, Filed, Withdrawn}
 use Rattle.register.specs.declared.entry.Entry.{Entry}
 use Rattle.register.specs.declared.register.Register.{Register}
 use Rattle.register.specs.declared.slip.Slip.{Slip}
-use Rattle.register.specs.declared.fault.FileFault.TheVariants.{NotOpen, OtherDocket}
+use Rattle.register.specs.declared.fault.FileFault.{FileFault}
+use Rattle.register.specs.declared.fault.FileFault.TheVariants.{OtherDocket}
 
 pub open-filed : {P : Type 0} (k : Kind) → Open ≡ Filed k → P
 open-filed k e = let z : ◌≡◌ {A = ℕ} 0 1 = cc in absurd (omega arith)
@@ -92,14 +94,16 @@ pub filed-true : (e : Entry) → FiledKindIsTrue (view_of e) → (k : Kind) → 
 unfolding FiledKindIsTrue
 filed-true e h k f = h k e.model f refl
 
-pub held-mark : (r : Register) (d : Entry) (i n : ℕ) (s : Status) → Some i ≡ place_of n (contents r) → i < r.count → ((e : EntryView) → lookup n (contents r) ≡ Some e → FiledKindIsTrue (stamped e s)) →
-    ∥ EachIsTrue (views_of (take r.count (set r.entries i (written (get_or r.entries i d) s)))) ∥₁
-held-mark r d i n s e lt f =
-    subst (λ (es : List EntryView). ∥ EachIsTrue es ∥₁) (sym (mark-is r d i n s e lt)) (∥∥₁_map r.sound (λ h. each-marked n s (contents r) h f))
+pub shown-true : (r : Register) (n : ℕ) (o : Option Entry) → viewed o ≡ lookup n (contents r) → ShownKindIsTrue o
+shown-true r n None q = tt
+shown-true r n (Some e) q = filed-true e (entry-sound r n (view_of e) (sym q))
 
-pub held-push : (r : Register) (e : Entry) → r.count < 64 → FiledKindIsTrue (view_of e) → ∥ EachIsTrue (views_of (take (r.count + 1) (set r.entries r.count e))) ∥₁
-held-push r e lt s =
-    subst (λ (es : List EntryView). ∥ EachIsTrue es ∥₁) (sym (push-is r e lt)) (∥∥₁_map r.sound (λ h. each-push (contents r) (view_of e) h s))
+pub held-mark : (r : Register) (es : List EntryView) (n : ℕ) (s : Status) → es ≡ marked n s (contents r) → ((e : EntryView) → lookup n (contents r) ≡ Some e → FiledKindIsTrue (stamped e s)) → ∥ EachIsTrue es ∥₁
+held-mark r es n s q f = rw q (∥∥₁_map r.sound (λ h. each-marked n s (contents r) h f))
+
+pub held-push : (r : Register) (es : List Entry) (e : Entry) (b : Bool) → es ≡ cond b (held r.entries ++ (e ∷ [])) (held r.entries) → FiledKindIsTrue (view_of e) → ∥ EachIsTrue (views_of es) ∥₁
+held-push r es e true q s = rw (q, map_push view_of (held r.entries) e) (∥∥₁_map r.sound (λ h. each-push (contents r) (view_of e) h s))
+held-push r es e false q s = rw q r.sound
 
 -- an open entry of a number: it is there, and open
 
@@ -111,18 +115,29 @@ pub open_is : (o : Option EntryView) (e : EntryView) → where_open o ≡ Some e
 open_is None e q = none-some e q
 open_is (Some x) e q = open-cond (is_open x.status) x e refl q
 
-passes : (b : Bool) → cond b None (Some OtherDocket) ≡ None → b ≡ true
+abbrev checked : Bool → Result (Unit {0}) FileFault
+checked b = cond b (Ok tt) (Err OtherDocket)
+
+passes : (b : Bool) → checked b ≡ Ok tt → b ≡ true
 passes true e = refl
-passes false e = none-some OtherDocket (sym e)
+passes false e = absurd (cc)
+
+-- the checks of a filing, on an open entry
+pub checked-is : (es : List EntryView) (s : Slip) (v : Verdict) (e : Entry) → Some (view_of e) ≡ open_of s.number es → (b : Bool) → (eqb v.number s.number && same_plan (plan_of v.model) (plan_of e.model)) ≡ b → checked b ≡ file_check es s v
+checked-is es s v e o b q = ap checked (sym q) ∙ ap (λ (x : Option EntryView). checked_at x s v) o
+
+pub and-no : (a b : Bool) → b ≡ false → (a && b) ≡ false
+and-no true b e = e
+and-no false b e = refl
 
 -- a filing that is not refused: an open entry, and a verdict of its number and plan
-pub file-is : (o : Option EntryView) (s : Slip) (v : Verdict) → fault_at o s v ≡ None → (e : EntryView) × (o ≡ Some e) × (plan_of v.model ≡ e.plan)
-file-is None s v q = none-some NotOpen (sym q)
+pub file-is : (o : Option EntryView) (s : Slip) (v : Verdict) → checked_at o s v ≡ Ok tt → (e : EntryView) × (o ≡ Some e) × (plan_of v.model ≡ e.plan)
+file-is None s v q = absurd (cc)
 file-is (Some e) s v q =
     let t = passes (eqb v.number s.number && same_plan (plan_of v.model) e.plan) q in
     (e, refl, plan-equal (plan_of v.model) e.plan (and_parts (eqb v.number s.number) (same_plan (plan_of v.model) e.plan) t).1)
 
-pub file-sound : (es : List EntryView) (s : Slip) (v : Verdict) → file_fault es s v ≡ None → (e : EntryView) → lookup s.number es ≡ Some e → FiledKindIsTrue (stamped e (Filed v.kind))
+pub file-sound : (es : List EntryView) (s : Slip) (v : Verdict) → file_check es s v ≡ Ok tt → (e : EntryView) → lookup s.number es ≡ Some e → FiledKindIsTrue (stamped e (Filed v.kind))
 file-sound es s v q e l =
     let f = file-is (open_of s.number es) s v q in
     let o = open_is (lookup s.number es) f.0 f.1 in

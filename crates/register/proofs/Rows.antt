@@ -13,7 +13,7 @@ use Rattle.findings.specs.declared.verdict.Verdict.{Verdict}
 use Rattle.findings.specs.Truths.{IsTrueOf}
 use Rattle.register.specs.Plans.{same_plan}
 use Rattle.register.specs.Views.{EntryView, is_open, is_filed, is_withdrawn, stamped, FiledKindIsTrue, EachIsTrue}
-use Rattle.register.specs.Calls.{lookup, where_open, open_of, marked, opened, admitted, slip_for, issue_answer, fault_at, hand_back, file_answer, ended_at}
+use Rattle.register.specs.Calls.{lookup, where_open, open_of, marked, opened, admitted, slip_for, issue_answer, checked_at, hand_back, file_answer, ended_at}
 use Rattle.register.specs.Rows.{Call, after, row, opens, sheets, Ending, ending, endings, status_by, status_in, read_as_entry, tally, AcceptsWhatItShould, FiledDocketsAreTrue}
 use Rattle.register.proofs.Plans.{plan-same}
 use Rattle.register.proofs.Held.{none-some, each_none, each-push, each-marked, each-nth, sound-open}
@@ -317,9 +317,9 @@ open-found es k n e h q o p =
 
 files-accepted : (es : List EntryView) (e : EntryView) (s : Slip) (v : Verdict) → open_of s.number es ≡ Some e → v.number ≡ s.number → plan_of v.model ≡ e.plan → file_answer es s v ≡ Ok tt
 files-accepted es e s v o n p =
-    ap (λ (x : Option EntryView). hand_back s v (fault_at x s v)) o
+    ap (λ (x : Option EntryView). hand_back s v (checked_at x s v)) o
     ∙ ap (hand_back s v)
-    (cond-true (eqb v.number s.number && same_plan (plan_of v.model) e.plan) None (Some OtherDocket)
+    (cond-true (eqb v.number s.number && same_plan (plan_of v.model) e.plan) (Ok tt) (Err OtherDocket)
     (and_from (eqb v.number s.number) (same_plan (plan_of v.model) e.plan) (eq-eqb v.number s.number n) (plan-same (plan_of v.model) e.plan p)))
 
 accepting : (es : List EntryView) → Apart es → AcceptsWhatItShould es

@@ -5,7 +5,7 @@ use Rattle.sheets.specs.declared.fault.SheetFault.{SheetFault}
 use Rattle.sheets.specs.Reads.{Sheet, read_of}
 use Rattle.findings.specs.declared.verdict.Verdict.{Verdict}
 use Rattle.register.specs.Views.{EntryView, is_open, stamped, FiledKindIsTrue}
-use Rattle.register.specs.Calls.{lookup, open_of, marked, admitted, slip_for, opened, with_sheet, file_fault, hand_back, after_file, ended_at, after_withdraw}
+use Rattle.register.specs.Calls.{lookup, open_of, marked, admitted, slip_for, opened, with_sheet, file_check, hand_back, after_file, ended_at, after_withdraw}
 use Rattle.register.specs.Rows.{Call, issuing, filing, withdrawing, after, opening, opens, Ending, ending, filing_ends, withdrawal_ends, ends}
 use Rattle.register.proofs.Held.{open_is, file-is, file-sound, sound-withdrawn}
 use Rattle.register.specs.declared.entry.Status.{Status}
@@ -39,9 +39,9 @@ issue-turn : (es : List EntryView) (t : List ℕ) (r : Result Sheet SheetFault) 
 issue-turn es t (Err f) e = same
 issue-turn es t (Ok s) e = issue-tests es t s e (is_some (lookup s.number es)) (ltb (length es) 64) refl refl
 
-file-turn : (es : List EntryView) (s : Slip) (v : Verdict) (o : Option FileFault) → file_fault es s v ≡ o → Turn es (after_file es s v o) [] (filing_ends s v (hand_back s v o))
-file-turn es s v (Some f) e = same
-file-turn es s v None e =
+file-turn : (es : List EntryView) (s : Slip) (v : Verdict) (o : Result (Unit {0}) FileFault) → file_check es s v ≡ o → Turn es (after_file es s v o) [] (filing_ends s v (hand_back s v o))
+file-turn es s v (Err f) e = same
+file-turn es s v (Ok tt) e =
     let f = file-is (open_of s.number es) s v e in
     let o = open_is (lookup s.number es) f.0 f.1 in
     over s.number (Filed v.kind) f.0 o.0 o.1 refl (file-sound es s v e f.0 o.0)
@@ -54,5 +54,5 @@ withdraw-turn es s (Some x) e =
 
 pub turn : (es : List EntryView) (c : Call) → Turn es (after es c) (opens es c) (ends es c)
 turn es (issuing t) = issue-turn es t (read_of t) refl
-turn es (filing s v) = file-turn es s v (file_fault es s v) refl
+turn es (filing s v) = file-turn es s v (file_check es s v) refl
 turn es (withdrawing s) = withdraw-turn es s (open_of s.number es) refl

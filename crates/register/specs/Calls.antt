@@ -1,6 +1,7 @@
 -- What each call of the register answers, and what the register then holds. Assumes nothing.
-use Rattle.std.specs.Prelude.{◌≡◌, ℕ, suc, cond, ◌&&◌, List, [], ◌∷◌, ◌++◌, length, take, is_some, Some, None, Ok, Err, Option, Result, ◌==◌, nat_lt}
+use Rattle.std.specs.Prelude.{◌≡◌, ℕ, suc, cond, ◌&&◌, List, [], ◌∷◌, ◌++◌, length, is_some, Some, None, Ok, Err, Option, Result, ◌==◌, nat_lt}
 use Rattle.sheets.specs.declared.fault.SheetFault.{SheetFault}
+use Rattle.sheets.specs.FixedLists.{held}
 use Rattle.sheets.specs.Reads.{Sheet, read_of, plan_of}
 use Rattle.bodies.specs.declared.kind.Kind.{Kind}
 use Rattle.findings.specs.declared.verdict.Verdict.{Verdict}
@@ -22,7 +23,7 @@ use Rattle.register.specs.declared.fault.Refused.{Refused}
 
 -- the entries of a register, in the order of issue
 abbrev pub contents : Register → List EntryView
-contents r = views_of (take r.count r.entries)
+contents r = views_of (held r.entries)
 
 -- the entry of a number
 abbrev pub lookup : ℕ → List EntryView → Option EntryView
@@ -86,26 +87,26 @@ abbrev pub issued : List EntryView → List ℕ → List EntryView
 issued es t = with_sheet es (admits es t)
 
 -- file: no open entry of the slip's number, then a verdict of another number or model
-abbrev pub fault_at : Option EntryView → Slip → Verdict → Option FileFault
-fault_at None s v = Some NotOpen
-fault_at (Some e) s v = cond (v.number == s.number && same_plan (plan_of v.model) e.plan) None (Some OtherDocket)
+abbrev pub checked_at : Option EntryView → Slip → Verdict → Result (Unit {0}) FileFault
+checked_at None s v = Err NotOpen
+checked_at (Some e) s v = cond (v.number == s.number && same_plan (plan_of v.model) e.plan) (Ok tt) (Err OtherDocket)
 
-abbrev pub file_fault : List EntryView → Slip → Verdict → Option FileFault
-file_fault es s v = fault_at (open_of s.number es) s v
+abbrev pub file_check : List EntryView → Slip → Verdict → Result (Unit {0}) FileFault
+file_check es s v = checked_at (open_of s.number es) s v
 
-abbrev pub hand_back : Slip → Verdict → Option FileFault → Result (Unit {0}) Refused
-hand_back s v None = Ok tt
-hand_back s v (Some f) = Err (record { fault = f; slip = s; verdict = v })
+abbrev pub hand_back : Slip → Verdict → Result (Unit {0}) FileFault → Result (Unit {0}) Refused
+hand_back s v (Ok u) = Ok tt
+hand_back s v (Err f) = Err (record { fault = f; slip = s; verdict = v })
 
 abbrev pub file_answer : List EntryView → Slip → Verdict → Result (Unit {0}) Refused
-file_answer es s v = hand_back s v (file_fault es s v)
+file_answer es s v = hand_back s v (file_check es s v)
 
-abbrev pub after_file : List EntryView → Slip → Verdict → Option FileFault → List EntryView
-after_file es s v None = marked s.number (Filed v.kind) es
-after_file es s v (Some f) = es
+abbrev pub after_file : List EntryView → Slip → Verdict → Result (Unit {0}) FileFault → List EntryView
+after_file es s v (Ok u) = marked s.number (Filed v.kind) es
+after_file es s v (Err f) = es
 
 abbrev pub filed : List EntryView → Slip → Verdict → List EntryView
-filed es s v = after_file es s v (file_fault es s v)
+filed es s v = after_file es s v (file_check es s v)
 
 -- withdraw: no open entry of the slip's number
 abbrev pub ended_at : Option EntryView → Result (Unit {0}) WithdrawFault

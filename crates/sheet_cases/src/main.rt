@@ -6,9 +6,12 @@ use sheets::line::Line;
 use sheets::read::read;
 use std::io::Read;
 
+// Stands after each sheet.
+const END: u8 = b'~';
+
 fn print_line(rt: &HostRuntime, line: &Line) -> anyhow::Result<()> {
     print!(rt; " agent")?;
-    for act in line.acts.iter().take(line.count) {
+    for act in line.as_slice() {
         let sign = act.sign;
         let token = act.token;
         print!(rt; " {sign}{token}")?;
@@ -18,7 +21,7 @@ fn print_line(rt: &HostRuntime, line: &Line) -> anyhow::Result<()> {
 
 fn print_tokens(rt: &HostRuntime, tokens: &Tokens) -> anyhow::Result<()> {
     print!(rt; " tokens")?;
-    for line in tokens.lines.iter().take(tokens.agents) {
+    for line in tokens.lines.as_slice() {
         print_line(rt, line)?;
     }
     let breach = tokens.breach;
@@ -51,20 +54,18 @@ fn answer(rt: &HostRuntime, sheet: &[u8]) -> anyhow::Result<()> {
 fn main(rt: HostRuntime) -> anyhow::Result<()> {
     let mut bytes = Vec::new(rt.alloc());
     rt.stdin().read_to_end(&mut bytes)?;
-    let mut start = 0;
-    for (i, b) in bytes.as_slice().iter().enumerate() {
-        if *b == b'~' {
-            if start <= i {
-                answer(&rt, &bytes.as_slice()[start..i])?;
-            }
-            start = i + 1;
-        }
+    let mut sheets = bytes.as_slice().split(|b| *b == END);
+    // No sheet is after the last `~`.
+    sheets.next_back();
+    for sheet in sheets {
+        answer(&rt, sheet)?;
     }
     Ok(())
 }
 
 #[cfg(test)]
 mod tests {
+    use faults::Fault;
     use sheets::read::read;
     use std::test::Fail;
 

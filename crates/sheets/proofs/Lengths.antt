@@ -5,7 +5,8 @@ use Rattle.std.proofs.lemmas.List.{get_or_past}
 use Rattle.std.proofs.lemmas.Bool.{leb-true, ltb-true, ltb-false, and_parts}
 use Rattle.sheets.specs.declared.line.Act.{Act}
 use Rattle.sheets.specs.Programs.{Program, used_by, used_by_all, in_order, all_in_order, formed}
-use Rattle.sheets.specs.Words.{small, all_of}
+use Rattle.std.specs.List.{list_all}
+use Rattle.sheets.specs.Words.{small}
 use Rattle.sheets.specs.Reads.{Shake, Plan, shake, tokens, Sheet}
 use Rattle.sheets.specs.Rendered.{spaced, render_shake, render_act, render_acts, render_lines, render_program, render_plan, render, Naming, NamesFor, HandshakeIsWithinLimits, PlanIsWithinLimits, IsWithinLimits}
 
@@ -23,8 +24,8 @@ module _ (ns : List (List ℕ)) (n : ℕ) (nm : Naming ns n) where
     where
       go : (t : Bool) → ltb k n ≡ t → length (get_or ns k []) ≤ 8
       go true e =
-          let p = and_parts (leb 1 (length (get_or ns k []))) (leb (length (get_or ns k [])) 8 && all_of small (get_or ns k [])) (nm.each k (ltb-true k n e)) in
-          let q = and_parts (leb (length (get_or ns k [])) 8) (all_of small (get_or ns k [])) p.1 in
+          let p = and_parts (leb 1 (length (get_or ns k []))) (leb (length (get_or ns k [])) 8 && list_all small (get_or ns k [])) (nm.each k (ltb-true k n e)) in
+          let q = and_parts (leb (length (get_or ns k [])) 8) (list_all small (get_or ns k [])) p.1 in
           leb-true _ _ q.0
       go false e =
           let l = ltb-false k n e in

@@ -1,3 +1,4 @@
+pub mod FixedFacts
 pub mod Runs
 pub mod NameFacts
 pub mod LineFacts

@@ -1,17 +1,7 @@
-use Rattle.std.proofs.Common.{◌≡◌, ℕ, suc, ◌+◌, ◌-◌, ◌≤◌, true, false, cond, List, [], ◌∷◌, length, get_or, Ok, Err, sym, refl, ap, ◌∙◌, arith}
-use Rattle.std.proofs.lemmas.List.{length-take-le}
+use Rattle.std.proofs.Common.{◌≡◌, ℕ, suc, ◌+◌, ◌-◌, ◌≤◌, true, false, cond, List, Ok, Err, sym, ap, ◌∙◌, arith}
 use Rattle.std.proofs.lemmas.Bool.{cond-true, cond-false}
-use Rattle.sheets.specs.declared.line.Line.{Line}
 use Rattle.sheets.specs.declared.fault.SheetFault.{SheetFault}
-use Rattle.sheets.specs.Programs.{acts_of}
 use Rattle.sheets.specs.Reads.{Sofar, Got, and_then, act_at, acts_at, space_at, separator_at}
-
-pub length-acts : (l : Line) → length (acts_of l) ≡ l.count
-length-acts l = length-take-le l.count l.acts (let f : l.count ≤ 8 = l.few in let g : length l.acts ≡ 8 = l.long in omega arith)
-
-pub get_or-none : (t : List ℕ) → length t ≡ 0 → get_or t 0 0 ≡ 0
-get_or-none [] h = refl
-get_or-none (c ∷ t) h = absurd (omega arith)
 
 pub then_ok : {X Y : Type 0} (g : Got X) (f : X → ℕ → Got Y) (x : X) (p : ℕ) → g ≡ Ok (x, p) → and_then g f ≡ f x p
 then_ok g f x p h = ap (λ k. and_then k f) h

@@ -1,6 +1,6 @@
 -- Each part of a sheet: what is read is what stands there, and what stands there is read.
 use Rattle.std.proofs.Common.{◌≡◌, ℕ, ◌+◌, ◌^◌, ◌<◌, ◌≤◌, Bool, true, false, cond, not, ◌&&◌, ◌||◌, eqb, ltb, leb, List, [], ◌∷◌, ◌++◌, length, get_or, take, drop, Some, None, Ok, Err, decimal, Option, Result, sym, refl, ap, ◌∙◌, subst, arith, length-drop, take-append-drop, rules}
-use Rattle.std.specs.List.{prefix_len}
+use Rattle.std.specs.List.{list_all, prefix_len}
 use Rattle.std.specs.Str.{bytes_eq}
 use Rattle.std.proofs.lemmas.List.{drop-drop, take_at, drop_at, drop_more, length-drop}
 use Rattle.std.proofs.lemmas.Slice.Eq.{bytes_eq-Decides}
@@ -10,7 +10,7 @@ use Rattle.std.proofs.lemmas.Bool.{and_parts, and_from, or_left, le-leb, leb-tru
 use Rattle.std.proofs.lemmas.Bool.Decides.{nat_tests}
 use Rattle.sheets.specs.declared.fault.SheetFault.{SheetFault}
 use Rattle.sheets.specs.declared.fault.SheetFault.TheVariants.{Misplaced, OutOfRange}
-use Rattle.sheets.specs.Words.{solid, digit, run_at, text_at, all_of, within, read_on, is_number, is_instruction, is_keyword, is_name, Kind, keyword, number, instruction, name, kind_of}
+use Rattle.sheets.specs.Words.{solid, digit, run_at, text_at, within, read_on, is_number, is_instruction, is_keyword, is_name, Kind, keyword, number, instruction, name, kind_of}
 use Rattle.sheets.specs.Reads.{Got, and_then, word_at, stop, separator_at, keyword_in, keyword_at, number_in, number_at}
 use Rattle.sheets.specs.Rendered.{Between}
 
@@ -20,7 +20,7 @@ inj e = cc
 pub no : {X A : Type 0} {f : SheetFault} {y : X} → ◌≡◌ {A = Result X SheetFault} (Err f) (Ok y) → A
 no h = let q : ◌≡◌ {A = ℕ} 0 1 = cc in absurd (omega arith)
 
-pub own : IsNumeralModel (λ ds. all_of digit ds ≡ true) (read_on 0)
+pub own : IsNumeralModel (λ ds. list_all digit ds ≡ true) (read_on 0)
 own = numerals_by_fold _ (search rules) read_on (search rules)
 
 -- the text at a place and what follows it
@@ -31,13 +31,13 @@ word_split b at = sym (take-append-drop (run_at b at) (drop at b)) ∙ ap (λ l.
 abbrev pub Blank : List ℕ → Type 0
 Blank rest = prefix_len solid rest ≡ 0
 
-pub run_of : (w rest : List ℕ) → all_of solid w ≡ true → Blank rest → prefix_len solid (w ++ rest) ≡ length w
+pub run_of : (w rest : List ℕ) → list_all solid w ≡ true → Blank rest → prefix_len solid (w ++ rest) ≡ length w
 run_of [] rest h k = k
 run_of (c ∷ w) rest h k =
-    let parts = and_parts (solid c) (all_of solid w) h in
+    let parts = and_parts (solid c) (list_all solid w) h in
     cond-true (solid c) _ _ parts.0 ∙ omega (arith, run_of w rest parts.1 k)
 
-pub text-of : (b : List ℕ) (at : ℕ) (w rest : List ℕ) → all_of solid w ≡ true → Blank rest → drop at b ≡ w ++ rest → (run_at b at ≡ length w) × (text_at b at ≡ w) × (drop (at + run_at b at) b ≡ rest)
+pub text-of : (b : List ℕ) (at : ℕ) (w rest : List ℕ) → list_all solid w ≡ true → Blank rest → drop at b ≡ w ++ rest → (run_at b at ≡ length w) × (text_at b at ≡ w) × (drop (at + run_at b at) b ≡ rest)
 text-of b at w rest h k e =
     let run : run_at b at ≡ length w = ap (prefix_len solid) e ∙ run_of w rest h k in (
       run,
@@ -96,10 +96,10 @@ sep-parts s b at z = go (ltb at (length b) && eqb (get_or b at 0) s) refl
         drop_more b at 0 (ltb-true at (length b) ps.0) ∙ (λ i. first i ∷ drop (next i) b)
     go false e h = no h
 
-pub word-done : (b : List ℕ) (at : ℕ) (w rest : List ℕ) → all_of solid w ≡ true → Blank rest → drop at b ≡ w ++ rest → (word_at b at ≡ kind_of w) × (drop (at + run_at b at) b ≡ rest)
+pub word-done : (b : List ℕ) (at : ℕ) (w rest : List ℕ) → list_all solid w ≡ true → Blank rest → drop at b ≡ w ++ rest → (word_at b at ≡ kind_of w) × (drop (at + run_at b at) b ≡ rest)
 word-done b at w rest h k e = let t = text-of b at w rest h k e in (ap kind_of t.1, t.2)
 
-pub keyword-done : (w : List ℕ) (b : List ℕ) (at : ℕ) (rest : List ℕ) → all_of solid w ≡ true → kind_of w ≡ Some (keyword w) → Blank rest → drop at b ≡ w ++ rest → Done (keyword_at w b at) tt b rest
+pub keyword-done : (w : List ℕ) (b : List ℕ) (at : ℕ) (rest : List ℕ) → list_all solid w ≡ true → kind_of w ≡ Some (keyword w) → Blank rest → drop at b ≡ w ++ rest → Done (keyword_at w b at) tt b rest
 keyword-done w b at rest h is k e =
     let t = word-done b at w rest h k e in
     (at + run_at b at, ap (keyword_in w b at) (t.0 ∙ is) ∙ cond-true _ _ _ ((bytes_eq-Decides w w).1 refl), t.1)
@@ -127,9 +127,9 @@ solid-digit c h =
     let low = leb-true 48 c p.0 in
     grind (arith, nat_tests)
 
-pub solid-digits : (t : List ℕ) → all_of digit t ≡ true → all_of solid t ≡ true
+pub solid-digits : (t : List ℕ) → list_all digit t ≡ true → list_all solid t ≡ true
 solid-digits [] h = refl
-solid-digits (c ∷ t) h = let p = and_parts (digit c) (all_of digit t) h in and_from _ _ (solid-digit c p.0) (solid-digits t p.1)
+solid-digits (c ∷ t) h = let p = and_parts (digit c) (list_all digit t) h in and_from _ _ (solid-digit c p.0) (solid-digits t p.1)
 
 pub number-decimal : (n : ℕ) → 1 ≤ n → n ≤ 9999 → is_number (decimal n) ≡ true
 number-decimal n h k =
@@ -150,7 +150,7 @@ number-done low high n b at rest h1 h2 h k e =
 decimal-number : (t : List ℕ) → is_number t ≡ true → read_on 0 t ≤ 9999 → decimal (read_on 0 t) ≡ t
 decimal-number t h small =
     let p = and_parts (leb 1 (length t)) _ h in
-    let q = and_parts (all_of digit t) _ p.1 in
+    let q = and_parts (list_all digit t) _ p.1 in
     let some = leb-true 1 (length t) p.0 in
     decimal-digits_value own t q.0 (omega arith) (λ z. one z q.1) (omega arith)
   where

@@ -7,7 +7,8 @@ use Rattle.std.proofs.lemmas.Bool.{cond-true, cond-false, leb-true, ltb-true, lt
 use Rattle.std.proofs.lemmas.Bool.Decides.{nat_tests}
 use Rattle.sheets.specs.declared.line.Act.{Act}
 use Rattle.sheets.specs.Programs.{Program, sign, used, used_by, used_by_all, in_order, all_in_order, formed}
-use Rattle.sheets.specs.Words.{solid, small, digit, all_of, is_name, is_number, is_instruction, is_keyword, run_at, keyword, instruction, name, kind_of}
+use Rattle.std.specs.List.{list_all}
+use Rattle.sheets.specs.Words.{solid, small, digit, is_name, is_number, is_instruction, is_keyword, run_at, keyword, instruction, name, kind_of}
 use Rattle.sheets.specs.Names.{index_of, with_name}
 use Rattle.sheets.specs.Reads.{Got, and_then, separator_at, Sofar, sofar, with_act, act_in, act_at, acts_at, space_at, Listed, listed, head_in, head_at, agent_at, agents_at, used_in, token_in, token_at, breach_at, program_at}
 use Rattle.sheets.specs.Rendered.{spaced, render_act, render_acts, render_lines, render_program, Naming}
@@ -20,14 +21,14 @@ solid-small c h =
     let low = leb-true 97 c p.0 in
     grind (arith, nat_tests)
 
-solid-letters : (t : List ℕ) → all_of small t ≡ true → all_of solid t ≡ true
+solid-letters : (t : List ℕ) → list_all small t ≡ true → list_all solid t ≡ true
 solid-letters [] h = refl
-solid-letters (c ∷ t) h = let p = and_parts (small c) (all_of small t) h in and_from _ _ (solid-small c p.0) (solid-letters t p.1)
+solid-letters (c ∷ t) h = let p = and_parts (small c) (list_all small t) h in and_from _ _ (solid-small c p.0) (solid-letters t p.1)
 
-pub solid-name : (w : List ℕ) → is_name w ≡ true → all_of solid w ≡ true
+pub solid-name : (w : List ℕ) → is_name w ≡ true → list_all solid w ≡ true
 solid-name w h =
-    let p = and_parts (leb 1 (length w)) (leb (length w) 8 && all_of small w) h in
-    let q = and_parts (leb (length w) 8) (all_of small w) p.1 in
+    let p = and_parts (leb 1 (length w)) (leb (length w) 8 && list_all small w) h in
+    let q = and_parts (leb (length w) 8) (list_all small w) p.1 in
     solid-letters w q.1
 
 solid-sign : (g : ℕ) → sign g ≡ true → solid g ≡ true
@@ -38,7 +39,7 @@ kind-act : (g : ℕ) (w : List ℕ) → sign g ≡ true → is_name w ≡ true �
 kind-act g w h k = cond-false _ _ _ (not-number g w h) ∙ cond-true _ _ _ (and_from _ _ h k)
   where
     digits : (g : ℕ) (w : List ℕ) → (leb 48 g && leb g 57) ≡ false → is_number (g ∷ w) ≡ false
-    digits g w e = and_right (leb 1 (length (g ∷ w))) _ (and_left (all_of digit (g ∷ w)) _ (and_left (digit g) _ e))
+    digits g w e = and_right (leb 1 (length (g ∷ w))) _ (and_left (list_all digit (g ∷ w)) _ (and_left (digit g) _ e))
 
     not-number : (g : ℕ) (w : List ℕ) → sign g ≡ true → is_number (g ∷ w) ≡ false
     not-number g w h = digits g w (grind (arith, nat_tests))
@@ -53,11 +54,11 @@ small-apart c h =
 pub kind-name : (w : List ℕ) → is_name w ≡ true → (kind_of w ≡ Some (keyword w)) ⊎ (kind_of w ≡ Some (name w))
 kind-name [] h = absurd (let z : ◌≡◌ {A = ℕ} 0 1 = cc in omega arith)
 kind-name (c ∷ w) h =
-    let p = and_parts (leb 1 (length (c ∷ w))) (leb (length (c ∷ w)) 8 && all_of small (c ∷ w)) h in
-    let q = and_parts (leb (length (c ∷ w)) 8) (all_of small (c ∷ w)) p.1 in
-    let r = and_parts (small c) (all_of small w) q.1 in
+    let p = and_parts (leb 1 (length (c ∷ w))) (leb (length (c ∷ w)) 8 && list_all small (c ∷ w)) h in
+    let q = and_parts (leb (length (c ∷ w)) 8) (list_all small (c ∷ w)) p.1 in
+    let r = and_parts (small c) (list_all small w) q.1 in
     let a = small-apart c r.0 in
-    let n : is_number (c ∷ w) ≡ false = and_right (leb 1 (length (c ∷ w))) _ (and_left (all_of digit (c ∷ w)) _ (and_left (digit c) _ a.0)) in
+    let n : is_number (c ∷ w) ≡ false = and_right (leb 1 (length (c ∷ w))) _ (and_left (list_all digit (c ∷ w)) _ (and_left (digit c) _ a.0)) in
     let i : is_instruction (c ∷ w) ≡ false = and_left (sign c) (is_name w) a.1 in
     let k : kind_of (c ∷ w) ≡ cond (is_keyword (c ∷ w)) (Some (keyword (c ∷ w))) (cond (is_name (c ∷ w)) (Some (name (c ∷ w))) None) = cond-false _ _ _ n ∙ cond-false _ _ _ i in
     go (is_keyword (c ∷ w)) (is_name (c ∷ w)) h k

@@ -1,3 +1,4 @@
+pub mod FixedLists
 pub mod Programs
 pub mod Faults
 pub mod Words

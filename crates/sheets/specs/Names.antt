@@ -1,7 +1,8 @@
 -- Names of tokens, numbered by first use. Assumes nothing.
-use Rattle.std.specs.Prelude.{ℕ, ◌+◌, cond, List, [], ◌∷◌, ◌++◌, length, take, Some, None, Option, nat_lt, slice_index_or}
+use Rattle.std.specs.Prelude.{ℕ, ◌+◌, cond, List, [], ◌∷◌, ◌++◌, length, Some, None, Option, nat_lt, slice_index_or}
 use Rattle.std.specs.Borrow.{Bor}
 use Rattle.std.specs.Str.{bytes_eq}
+use Rattle.sheets.specs.FixedLists.{held}
 use Rattle.sheets.specs.declared.names.Names.{Names}
 
 abbrev pub texts : List (Bor (List ℕ)) → List (List ℕ)
@@ -9,7 +10,7 @@ texts [] = []
 texts (r ∷ rs) = r.now ∷ texts rs
 
 abbrev pub names_of : Names → List (List ℕ)
-names_of n = texts (take n.count n.texts)
+names_of n = texts (held n.texts)
 
 -- the place of a name among others, or their number if it is none of them
 abbrev pub index_of : List (List ℕ) → List ℕ → ℕ

@@ -1,16 +1,15 @@
 -- What a sheet reads as, from a place on. Assumes nothing.
-use Rattle.std.specs.Prelude.{◌≡◌, ℕ, zero, suc, ◌+◌, Bool, true, false, cond, ◌&&◌, List, [], ◌∷◌, ◌++◌, map, length, take, drop, Some, None, Ok, Err, codes, Option, Result, ◌==◌, nat_le, nat_lt, slice_index}
+use Rattle.std.specs.Prelude.{◌≡◌, ℕ, zero, suc, ◌+◌, Bool, true, false, cond, ◌&&◌, List, [], ◌∷◌, ◌++◌, length, drop, Some, None, Ok, Err, codes, Option, Result, ◌==◌, nat_le, nat_lt, slice_index}
 use Rattle.std.specs.Str.{bytes_eq}
 use Rattle.sheets.specs.declared.fault.SheetFault.{SheetFault}
 use Rattle.sheets.specs.declared.fault.SheetFault.TheVariants.{TooLong, Misplaced, OutOfRange, Ended}
 use Rattle.sheets.specs.declared.arrangement.Handshake as handshake
 use Rattle.sheets.specs.declared.arrangement.Docket.{Docket}
 use Rattle.sheets.specs.declared.line.Act.{Act}
-use Rattle.sheets.specs.declared.line.Line as line
+use Rattle.sheets.specs.declared.fixed_list.FixedList.{FixedList}
 use Rattle.sheets.specs.declared.arrangement.Tokens as store
-use Rattle.sheets.specs.declared.lines.Agents.{Agents}
 use Rattle.sheets.specs.Names.{index_of, with_name}
-use Rattle.sheets.specs.Programs.{Program, acts_of, program_from}
+use Rattle.sheets.specs.Programs.{Program, acts_of, lines_of, program_from}
 use Rattle.sheets.specs.declared.arrangement.Arrangement.{Arrangement}
 use Rattle.sheets.specs.declared.arrangement.Arrangement.TheVariants.{Handshake, Tokens}
 use Rattle.sheets.specs.declared.words.Word.{Word}
@@ -130,7 +129,7 @@ pub record Sofar : Type 0 where
 abbrev pub sofar : List (List ℕ) → List Act → Sofar
 sofar ns js = record { names = ns; acts = js }
 
-abbrev pub line_took : Result line.Line SheetFault → List (List ℕ) → ℕ → Got Sofar
+abbrev pub line_took : Result (FixedList Act 8) SheetFault → List (List ℕ) → ℕ → Got Sofar
 line_took (Ok l) ns next = Ok (sofar ns (acts_of l), next)
 line_took (Err e) ns next = Err e
 
@@ -169,10 +168,7 @@ pub record Listed : Type 0 where
 abbrev pub listed : List (List ℕ) → List (List Act) → Listed
 listed ns ls = record { names = ns; lines = ls }
 
-abbrev pub lines_of : Agents → List (List Act)
-lines_of a = map acts_of (take a.count a.lines)
-
-abbrev pub agents_took : Result Agents SheetFault → List (List ℕ) → ℕ → Got Listed
+abbrev pub agents_took : Result (FixedList (FixedList Act 8) 4) SheetFault → List (List ℕ) → ℕ → Got Listed
 agents_took (Ok a) ns next = Ok (listed ns (lines_of a), next)
 agents_took (Err e) ns next = Err e
 
@@ -236,7 +232,7 @@ pub record Sheet : Type 0 where
   pub plan : Plan
 
 abbrev pub program_of : store.Tokens → Program
-program_of t = program_from t.lines t.agents t.breach
+program_of t = program_from t.lines t.breach
 
 abbrev pub plan_of : Arrangement → Plan
 plan_of (Handshake h) = shake (shake_of h)

@@ -1,6 +1,6 @@
 -- The words of a sheet, by place. Assumes nothing.
-use Rattle.std.specs.Prelude.{ℕ, ◌+◌, ◌-◌, ◌*◌, Bool, true, cond, not, ◌&&◌, ◌||◌, List, [], ◌∷◌, length, take, drop, Some, None, codes, Option, ◌==◌, nat_le, slice_index}
-use Rattle.std.specs.List.{prefix_len}
+use Rattle.std.specs.Prelude.{ℕ, ◌+◌, ◌-◌, ◌*◌, Bool, cond, not, ◌&&◌, ◌||◌, List, [], ◌∷◌, length, take, drop, Some, None, codes, Option, ◌==◌, nat_le, slice_index}
+use Rattle.std.specs.List.{list_all, prefix_len}
 use Rattle.std.specs.Str.{bytes_eq}
 use Rattle.sheets.specs.Programs.{sign}
 
@@ -18,10 +18,6 @@ text_at b at = take (run_at b at) (drop at b)
 abbrev pub within : ℕ → ℕ → ℕ → Bool
 within low high c = nat_le low c && nat_le c high
 
-abbrev pub all_of : (ℕ → Bool) → List ℕ → Bool
-all_of p [] = true
-all_of p (c ∷ cs) = p c && all_of p cs
-
 abbrev pub digit : ℕ → Bool
 digit = within 48 57
 
@@ -29,11 +25,11 @@ abbrev pub small : ℕ → Bool
 small = within 97 122
 
 abbrev pub is_name : List ℕ → Bool
-is_name t = nat_le 1 (length t) && (nat_le (length t) 8 && all_of small t)
+is_name t = nat_le 1 (length t) && (nat_le (length t) 8 && list_all small t)
 
 -- digits with no leading zero
 abbrev pub is_number : List ℕ → Bool
-is_number t = nat_le 1 (length t) && (all_of digit t && (not (slice_index t 0 == 48) || length t == 1))
+is_number t = nat_le 1 (length t) && (list_all digit t && (not (slice_index t 0 == 48) || length t == 1))
 
 abbrev pub is_instruction : List ℕ → Bool
 is_instruction t = sign (slice_index t 0) && is_name (drop 1 t)

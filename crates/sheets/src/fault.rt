@@ -1,10 +1,12 @@
 // Why a sheet is refused, with the place of the first offending byte.
 ghost use Rattle.std.specs.Prelude.{◌≡◌, Some};
-ghost use Rattle.sheets.specs.Faults.{number_of, place_of, fault_line};
+ghost use Rattle.sheets.specs.Faults.{number_of as fault_number, values_of as fault_values, place_of, fault_line};
 
+use crate::read::LONGEST;
+use faults::{Fault, Values};
 use std::fmt;
 
-#[derive(Clone, Copy)]
+#[derive(Clone, Copy, Debug, PartialEq, Eq)]
 pub enum SheetFault {
     TooLong,
     Misplaced(usize),
@@ -13,9 +15,25 @@ pub enum SheetFault {
 }
 
 impl SheetFault {
-    pub fn number(self) -> u8
-        ensures { result ≡ number_of self }
+    pub fn place(self) -> usize
+        ensures { result ≡ place_of self }
     {
+        match self {
+            SheetFault::TooLong => LONGEST,
+            SheetFault::Misplaced(place)
+            | SheetFault::OutOfRange(place)
+            | SheetFault::Ended(place) => place,
+        }
+    }
+}
+
+// The value beside the number is the place.
+impl Fault for SheetFault {
+    ghost number_of = { fault_number };
+
+    ghost values_of = { fault_values };
+
+    fn number(&self) -> u8 {
         match self {
             SheetFault::TooLong => 1,
             SheetFault::Misplaced(_) => 2,
@@ -24,15 +42,8 @@ impl SheetFault {
         }
     }
 
-    pub fn place(self) -> usize
-        ensures { result ≡ place_of self }
-    {
-        match self {
-            SheetFault::TooLong => 2048,
-            SheetFault::Misplaced(place) => place,
-            SheetFault::OutOfRange(place) => place,
-            SheetFault::Ended(place) => place,
-        }
+    fn values(&self) -> Values {
+        Values::One(self.place())
     }
 }
 

@@ -3,10 +3,9 @@
 
 pub mod arrangement;
 pub mod fault;
-mod filling;
+pub mod fixed_list;
 mod grammar;
 pub mod line;
-mod lines;
 pub mod names;
 mod naming;
 pub mod read;

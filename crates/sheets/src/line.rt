@@ -1,18 +1,21 @@
 // An agent's line of instructions.
-ghost use Rattle.std.specs.Prelude.{◌≡◌, ◌≤◌, length};
+use crate::fixed_list::FixedList;
 
-// An instruction: its sign, which is one of + - ? !, and the number of its token.
-#[derive(Clone, Copy)]
+/// No line has more instructions.
+pub const MOST_ACTS: usize = 8;
+
+/// No token store has more agents.
+pub const MOST_AGENTS: usize = 4;
+
+/// An instruction: its sign, which is one of + - ? !, and the number of its token.
+#[derive(Clone, Copy, Debug, PartialEq, Eq)]
 pub struct Act {
     pub sign: char,
     pub token: usize,
 }
 
-// The first `count` places hold the instructions.
-#[derive(Clone, Copy)]
-pub struct Line {
-    pub acts: [Act; 8],
-    pub count: usize,
-    ghost few: { count ≤ 8 },
-    ghost long: { length acts ≡ 8 },
-}
+/// An agent's instructions.
+pub type Line = FixedList<Act, MOST_ACTS>;
+
+/// The agents' lines.
+pub type Agents = FixedList<Line, MOST_AGENTS>;

@@ -1,10 +1,11 @@
 // The names of the tokens so far.
-ghost use Rattle.std.specs.Prelude.{◌≤◌};
+use crate::fixed_list::FixedList;
 
-// The first `count` places hold the names, in the order of their first use.
+/// No token store has more tokens.
+pub const MOST_TOKENS: usize = 16;
+
+/// The names, in the order of their first use.
 #[derive(Drop)]
 pub struct Names<'a> {
-    pub texts: [&'a [u8]; 16],
-    pub count: usize,
-    ghost few: { count ≤ 16 },
+    pub texts: FixedList<&'a [u8], MOST_TOKENS>,
 }

@@ -11,9 +11,10 @@ use crate::names::Names;
 use crate::reader::Reader;
 
 // No sheet has more bytes.
-const LONGEST: usize = 2048;
+pub(crate) const LONGEST: usize = 2048;
 
-// The docket that a sheet describes; the names of its tokens go to `names`, which stay as they were where the sheet is refused.
+/// The docket that a sheet describes; the names of its tokens go to `names`, which stay as they were where the sheet is refused.
+#[tactic(auto, unfolding(crate::specs::Reads::named_of))]
 pub fn read_named<'a>(sheet: &'a [u8], names: &mut Names<'a>) -> Result<Docket, SheetFault>
     ensures reads { sheet_read result ≡ unnamed (named_of sheet.now) }
     ensures names { names_of names.new ≡ names_after (named_of sheet.now) (names_of names.old) }
@@ -33,7 +34,7 @@ pub fn read_named<'a>(sheet: &'a [u8], names: &mut Names<'a>) -> Result<Docket, 
     })
 }
 
-// The docket that a sheet describes. A sheet is accepted exactly if it is the text of a docket.
+/// The docket that a sheet describes. A sheet is accepted exactly if it is the text of a docket.
 pub fn read(sheet: &[u8]) -> Result<Docket, SheetFault>
     ensures reads { sheet_read result ≡ read_of sheet.now }
     ensures written { AcceptedIffWritten }

@@ -3,9 +3,9 @@ ghost use Rattle.std.specs.Prelude.{◌≡◌, ◌+◌, ◌≤◌, IfOk, if◌th
 ghost use Rattle.sheets.specs.Reads.{Sees, stop, got, separator_at, keyword_at, number_at, spaced_at, either_at, space_at, end_at};
 
 use crate::fault::SheetFault;
-use crate::words::{Placed, SPACE, Word, classed, run_end, same, text_at, value_up_to};
+use crate::words::{Placed, SPACE, Word, classed, text_at, value_up_to};
 
-// A sheet, and the place up to which it is read.
+/// A sheet, and the place up to which it is read.
 #[derive(Drop)]
 pub struct Reader<'a> {
     pub(crate) sheet: &'a [u8],
@@ -30,10 +30,9 @@ impl<'a> Reader<'a> {
         ensures same { self.new.sheet ≡ self.old.sheet }
     {
         let at = self.at;
-        let Some(word) = classed(text_at(self.sheet, at)) else {
-            return None;
-        };
-        self.at = run_end(self.sheet, at);
+        let text = text_at(self.sheet, at);
+        let word = classed(text)?;
+        self.at += text.len();
         Some(Placed { word, at })
     }
 
@@ -42,7 +41,7 @@ impl<'a> Reader<'a> {
         ensures reads { got result self.new.at ≡ separator_at wanted self.old.sheet.now self.old.at }
         ensures same { self.new.sheet ≡ self.old.sheet }
     {
-        if self.at < self.sheet.len() && self.sheet[self.at] == wanted {
+        if self.sheet.get(self.at) == Some(&wanted) {
             self.at += 1;
             Ok(())
         } else {
@@ -59,7 +58,7 @@ impl<'a> Reader<'a> {
             return Err(self.stopped());
         };
         match placed.word {
-            Word::Keyword(text) if same(text, wanted) => Ok(()),
+            Word::Keyword(text) if text == wanted => Ok(()),
             _ => Err(SheetFault::Misplaced(placed.at)),
         }
     }
@@ -101,8 +100,8 @@ impl<'a> Reader<'a> {
             return Err(self.stopped());
         };
         match placed.word {
-            Word::Keyword(text) if same(text, no) => Ok(false),
-            Word::Keyword(text) if same(text, yes) => Ok(true),
+            Word::Keyword(text) if text == no => Ok(false),
+            Word::Keyword(text) if text == yes => Ok(true),
             _ => Err(SheetFault::Misplaced(placed.at)),
         }
     }
@@ -113,7 +112,7 @@ impl<'a> Reader<'a> {
         ensures next { self.new.at ≡ (if result then self.old.at + 1 else self.old.at) }
         ensures same { self.new.sheet ≡ self.old.sheet }
     {
-        if self.at < self.sheet.len() && self.sheet[self.at] == SPACE {
+        if self.sheet.get(self.at) == Some(&SPACE) {
             self.at += 1;
             true
         } else {

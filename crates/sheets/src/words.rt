@@ -1,16 +1,35 @@
 // The words of a sheet: the longest runs of bytes other than space and line end.
-ghost use Rattle.std.specs.Prelude.{◌≡◌, ℕ, ◌+◌, drop, if◌then◌else◌, Some, None, nat_le, slice_index};
-ghost use Rattle.std.specs.Str.{bytes_eq};
-ghost use Rattle.sheets.specs.Words.{run_at, text_at, all_of, within, is_name, is_number, is_instruction, is_keyword, kind_of, read_on};
+ghost use Rattle.std.specs.Prelude.{◌≡◌, drop, if◌then◌else◌, Some, None, nat_le, slice_index};
+ghost use Rattle.std.specs.List.{list_all};
+ghost use Rattle.sheets.specs.Words.{text_at, within, is_name, is_number, is_instruction, is_keyword, kind_of, read_on};
 ghost use Rattle.sheets.specs.Words.{solid as solid_byte};
 ghost use Rattle.sheets.specs.Programs.{sign as sign_code};
 ghost use Rattle.sheets.specs.Reads.{word_in};
 
-pub(crate) const SPACE: u8 = 32;
+pub(crate) const SPACE: u8 = b' ';
 
-pub(crate) const LINE_END: u8 = 10;
+pub(crate) const LINE_END: u8 = b'\n';
 
-// A word by its kind, with its part of the sheet.
+// No name has more letters.
+const LONGEST_NAME: usize = 8;
+
+pub(crate) const DOCKET: &[u8] = b"docket";
+
+pub(crate) const HANDSHAKE: &[u8] = b"handshake";
+
+pub(crate) const ORIGINAL: &[u8] = b"original";
+
+pub(crate) const LOWE: &[u8] = b"lowe";
+
+pub(crate) const TOKENS: &[u8] = b"tokens";
+
+pub(crate) const AGENT: &[u8] = b"agent";
+
+pub(crate) const BREACH: &[u8] = b"breach";
+
+const KEYWORDS: [&[u8]; 7] = [DOCKET, HANDSHAKE, ORIGINAL, LOWE, TOKENS, AGENT, BREACH];
+
+/// A word by its kind, with its part of the sheet.
 #[derive(Clone, Copy)]
 pub enum Word<'a> {
     Keyword(&'a [u8]),
@@ -19,94 +38,68 @@ pub enum Word<'a> {
     Name(&'a [u8]),
 }
 
-// A word and the place of its first byte.
+/// A word and the place of its first byte.
 #[derive(Clone, Copy)]
 pub struct Placed<'a> {
     pub word: Word<'a>,
     pub at: usize,
 }
 
+// Neither space nor line end.
 fn solid(b: u8) -> bool
     ensures { result ≡ solid_byte b }
 {
     b != SPACE && b != LINE_END
 }
 
-// The end of the word that begins at a place, which is the place where none does.
-pub(crate) fn run_end(sheet: &[u8], at: usize) -> usize
-    ensures { result ≡ at + run_at sheet.now at }
-{
-    let mut end = at;
-    while end < sheet.len() && solid(sheet[end]) {
-        end += 1;
-    }
-    end
-}
-
+// The word that begins at a place; it is empty where none does.
 pub(crate) fn text_at<'a>(sheet: &'a [u8], at: usize) -> &'a [u8]
     ensures { result.now ≡ text_at sheet.now at }
 {
-    let end = run_end(sheet, at);
-    if end == at {
+    let Some(rest) = sheet.get(at..) else {
         return b"";
-    }
-    &sheet[at..end]
-}
-
-pub(crate) fn same(text: &[u8], wanted: &[u8]) -> bool
-    ensures { result ≡ bytes_eq text.now wanted.now }
-{
-    text == wanted
+    };
+    let end = rest.iter().take_while(|b| solid(**b)).count();
+    &rest[..end]
 }
 
 fn is_keyword(text: &[u8]) -> bool
     ensures { result ≡ is_keyword text.now }
 {
-    same(text, b"docket")
-        || same(text, b"handshake")
-        || same(text, b"original")
-        || same(text, b"lowe")
-        || same(text, b"tokens")
-        || same(text, b"agent")
-        || same(text, b"breach")
+    KEYWORDS.iter().any(|keyword| text == *keyword)
 }
 
 fn all_within(text: &[u8], low: u8, high: u8) -> bool
-    ensures { result ≡ all_of (within low high) text.now }
+    ensures { result ≡ list_all (within low high) text.now }
 {
-    for b in text {
-        if *b < low || *b > high {
-            return false;
-        }
-    }
-    true
+    text.iter().all(|b| (low..=high).contains(b))
 }
 
 fn is_name(text: &[u8]) -> bool
     ensures { result ≡ is_name text.now }
 {
-    text.len() >= 1 && text.len() <= 8 && all_within(text, b'a', b'z')
+    (1..=LONGEST_NAME).contains(&text.len()) && all_within(text, b'a', b'z')
 }
 
 fn is_number(text: &[u8]) -> bool
     ensures { result ≡ is_number text.now }
 {
-    text.len() >= 1 && all_within(text, b'0', b'9') && (text[0] != b'0' || text.len() == 1)
+    !text.is_empty() && all_within(text, b'0', b'9') && (text[0] != b'0' || text.len() == 1)
 }
 
 fn is_sign(sign: char) -> bool
     ensures { result ≡ sign_code sign }
 {
-    match sign {
-        '+' | '-' | '?' | '!' => true,
-        _ => false,
-    }
+    matches!(sign, '+' | '-' | '?' | '!')
 }
 
 fn is_instruction(text: &[u8]) -> bool
     ensures { result ≡ is_instruction text.now }
 {
-    text.len() >= 1 && is_sign(char::from(text[0])) && is_name(&text[1..])
+    match text {
+        [sign, name @ ..] => is_sign(char::from(*sign)) && is_name(name),
+        [] => false,
+    }
 }
 
 pub(crate) fn classed<'a>(text: &'a [u8]) -> Option<Word<'a>>
@@ -125,36 +118,38 @@ pub(crate) fn classed<'a>(text: &'a [u8]) -> Option<Word<'a>>
     }
 }
 
+// The sign of an instruction. An empty text is none; its 0 is what the sheet's meaning says there, which an option would
+// only hand to the caller.
 pub(crate) fn sign_of(text: &[u8]) -> char
     ensures { result ≡ slice_index text.now 0 }
 {
-    if text.len() == 0 {
-        return '\0';
+    match text {
+        [sign, ..] => char::from(*sign),
+        [] => '\0',
     }
-    char::from(text[0])
 }
 
+// The name after an instruction's sign.
 pub(crate) fn name_of<'a>(text: &'a [u8]) -> &'a [u8]
     ensures { result.now ≡ drop 1 text.now }
 {
-    if text.len() == 0 {
-        return b"";
+    match text {
+        [_, name @ ..] => name,
+        [] => text,
     }
-    &text[1..]
 }
 
+// The number that digits write, if it is at most `high`. A loop, since a fold is no plainer: it has to stop before the
+// number leaves its type.
 pub(crate) fn value_up_to(text: &[u8], high: u16) -> Option<u16>
     ensures { result ≡ (if nat_le (read_on 0 text.now) high then Some (read_on 0 text.now) else None) }
 {
     let mut value: u32 = 0;
     for b in text {
-        if value > high as u32 {
+        value = value * 10 + u32::from(b.saturating_sub(b'0'));
+        if value > u32::from(high) {
             return None;
         }
-        value = value * 10 + b.saturating_sub(b'0') as u32;
-    }
-    if value > high as u32 {
-        return None;
     }
     Some(value as u16)
 }

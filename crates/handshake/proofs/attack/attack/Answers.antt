@@ -1,5 +1,5 @@
 use Rattle.handshake.proofs.Attacked.{attack-stands}
 use Rattle.handshake.proofs.attack.attack.Goals as goal
 
-pub returns : goal.returns
-returns c = record { labels = c.labels.ensures; stands = attack-stands }
+pub returns-clause-stands : goal.returns-clause-stands
+returns-clause-stands c = attack-stands
