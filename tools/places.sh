@@ -1,5 +1,5 @@
 #!/bin/bash
-# Lists the lines of src/ where a place of the design pass may stand: a heading and a count for each point of docs/DESIGN-PASS.md.
+# Lists the lines of src/ where a place of the design pass may stand: a heading and a count for each of its points.
 # Usage: tools/places.sh [-l]     with -l, the lines too
 set -euo pipefail
 cd "$(dirname "$0")/.."

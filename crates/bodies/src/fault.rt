@@ -1,4 +1,4 @@
-// Why a body is not accepted, and why none is written.
+//! Why a body is not accepted, and why none is written.
 use faults::{Fault, Values};
 
 /// A step whose label is not possible; n labels that end unbreached; a state that cannot stand at its number; a state and a label that lead out; a table that is not empty or has too few places.
@@ -64,8 +64,7 @@ impl Fault for WriteFault {
 
     fn values(&self) -> Values {
         match *self {
-            WriteFault::Unfinished => Values::Nothing,
-            WriteFault::Trail => Values::Nothing,
+            WriteFault::Unfinished | WriteFault::Trail => Values::Nothing,
             WriteFault::Short(needed) => Values::One(needed),
         }
     }

@@ -1,4 +1,4 @@
-// The body of a finding: the labels of a run to a breach, or the states of a search that closed. Judged and written once, for any model and any table.
+//! The body of a finding: the labels of a run to a breach, or the states of a search that closed. Judged and written once, for any model and any table.
 #![tactic(auto)]
 
 pub mod fault;

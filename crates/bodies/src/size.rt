@@ -1,4 +1,4 @@
-// The size of a body.
+//! The size of a body.
 
 /// How many bytes tell a label.
 pub const LABEL_BYTES: usize = 2;

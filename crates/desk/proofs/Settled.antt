@@ -1,5 +1,5 @@
 -- A slip of an open docket is spent, and the docket is then open no more.
-use Rattle.std.proofs.Common.{◌≡◌, ℕ, Bool, true, false, cond, eqb, ltb, List, [], ◌∷◌, ◌++◌, length, is_some, Some, None, Ok, Err, Result, sym, refl, ap, ◌∙◌, subst, arith, eq-eqb}
+use Rattle.std.proofs.Common.{◌≡◌, ℕ, Bool, true, false, cond, eqb, ltb, List, [], ◌∷◌, ◌++◌, length, is_some, Some, None, Ok, Err, Result, sym, refl, ap, ◌∙◌, subst, eq-eqb}
 use Rattle.sheets.specs.declared.fault.SheetFault.{SheetFault}
 use Rattle.sheets.specs.Reads.{Sheet, read_of}
 use Rattle.findings.specs.declared.verdict.Verdict.{Verdict}
@@ -41,13 +41,13 @@ found-last : (n : ℕ) (es : List EntryView) (e : EntryView) → e.number ≡ n 
 found-last n [] e h l = ap (λ (b : Bool). cond b (Some e) None) (ap (λ (k : ℕ). eqb k n) h ∙ eqb_same n)
 found-last n (x ∷ es) e h l =
     elim (eqb x.number n) as (λ b. is_some (cond b (Some x) (lookup n es)) ≡ false → cond b (Some x) (lookup n (es ++ (e ∷ []))) ≡ Some e)
-    [ true ↦ λ m. (let z : ◌≡◌ {A = ℕ} 0 1 = cc in absurd (omega arith)) | false ↦ λ m. found-last n es e h m ] l
+    [ true ↦ λ m. (absurd (cc)) | false ↦ λ m. found-last n es e h m ] l
 
 marked-last : (n : ℕ) (st : Status) (es : List EntryView) (e : EntryView) → e.number ≡ n → is_some (lookup n es) ≡ false → marked n st (es ++ (e ∷ [])) ≡ es ++ (stamped e st ∷ [])
 marked-last n st [] e h l = ap (λ (b : Bool). cond b (stamped e st ∷ []) (e ∷ [])) (ap (λ (k : ℕ). eqb k n) h ∙ eqb_same n)
 marked-last n st (x ∷ es) e h l =
     elim (eqb x.number n) as (λ b. is_some (cond b (Some x) (lookup n es)) ≡ false → cond b (stamped x st ∷ (es ++ (e ∷ []))) (x ∷ marked n st (es ++ (e ∷ []))) ≡ x ∷ (es ++ (stamped e st ∷ [])))
-    [ true ↦ λ m. (let z : ◌≡◌ {A = ℕ} 0 1 = cc in absurd (omega arith)) | false ↦ λ m. ap (λ (ys : List EntryView). x ∷ ys) (marked-last n st es e h m) ] l
+    [ true ↦ λ m. (absurd (cc)) | false ↦ λ m. ap (λ (ys : List EntryView). x ∷ ys) (marked-last n st es e h m) ] l
 
 -- what an accepted issue leaves
 
@@ -58,13 +58,13 @@ record Admitted (es : List EntryView) (s : Slip) (a : Result Sheet IssueFault) :
   pub new : is_some (lookup sheet.number es) ≡ false
 
 admitted-so : (es : List EntryView) (s : Slip) (r : Result Sheet SheetFault) → Ok s ≡ slip_for (admitted es r) → Admitted es s (admitted es r)
-admitted-so es s (Err f) e = let z : ◌≡◌ {A = ℕ} 0 1 = cc in absurd (omega arith)
+admitted-so es s (Err f) e = absurd (cc)
 admitted-so es s (Ok t) e =
     go (is_some (lookup t.number es)) (ltb (length es) 64) refl e
   where
     go : (a b : Bool) → is_some (lookup t.number es) ≡ a → Ok s ≡ slip_for (cond a (Err Taken) (cond b (Ok t) (Err Full))) → Admitted es s (cond a (Err Taken) (cond b (Ok t) (Err Full)))
-    go true b p q = let z : ◌≡◌ {A = ℕ} 0 1 = cc in absurd (omega arith)
-    go false false p q = let z : ◌≡◌ {A = ℕ} 0 1 = cc in absurd (omega arith)
+    go true b p q = absurd (cc)
+    go false false p q = absurd (cc)
     go false true p q = record { sheet = t; is = refl; number = cc; new = p }
 
 -- the slip's docket is open

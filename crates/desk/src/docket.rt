@@ -1,4 +1,4 @@
-// A docket from its sheet to its listing.
+//! A docket from its sheet to its listing.
 ghost use Rattle.std.specs.Prelude.{◌≡◌, Some as SomeCase};
 ghost use Rattle.register.specs.Views.{EntryView};
 ghost use Rattle.register.specs.Calls.{contents, open_of, admits};
@@ -9,6 +9,8 @@ use crate::judging::judge_in_trees;
 use crate::steps::print_steps;
 use anyhow::anyhow;
 use bodies::kind::Kind;
+use bodies::size::LABEL_BYTES;
+use findings::frame::FRAME_LENGTH;
 use findings::verdict::Verdict;
 use handshake::model::Protocol;
 use listing::lines::{Ending, FaultLine, Head, Tail};
@@ -91,7 +93,7 @@ fn ending(register: &Register, number: u16, steps: usize, states: usize) -> Endi
 
 // The labels of a breach's finding, which stand behind its frame and its sheet.
 fn labels_of<'a>(finding: &'a [u8], sheet: &[u8]) -> &'a [u8] {
-    let start = sheet.len().saturating_add(24).min(finding.len());
+    let start = sheet.len().saturating_add(FRAME_LENGTH).min(finding.len());
     &finding[start..]
 }
 
@@ -112,7 +114,12 @@ fn print_listing(
     };
     let standing = examined.standing;
     let number = docket.number;
-    let ending = ending(register, number, labels.len() / 2, standing.stored);
+    let ending = ending(
+        register,
+        number,
+        labels.len() / LABEL_BYTES,
+        standing.stored,
+    );
     rt.println(Head { number, ending })?;
     if let Ending::Breach(_) = ending {
         print_steps(rt, docket.arrangement, &names, labels)?;

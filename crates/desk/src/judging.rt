@@ -1,4 +1,4 @@
-// The judging of a finding in search trees.
+//! The judging of a finding in search trees.
 ghost use Rattle.std.specs.Prelude.{◌≡◌, ◌+◌, ◌*◌, length, IfOk};
 ghost use Rattle.desk.specs.Judged.{JudgesInEmptyTables};
 
@@ -13,6 +13,7 @@ use tables::Tree;
 use tokens::state::State as StoreState;
 
 // The memory of a search tree: a place for each state, and two links beside one for the root.
+// Tables allocate nothing, so each program makes the memory that it lends.
 #[derive(Drop)]
 struct Memory<S> {
     entries: Vec<S>,
@@ -41,20 +42,9 @@ pub fn judge_in_trees(
 ) -> Result<Result<Verdict, FindingFault>, AllocError>
     ensures { IfOk result (JudgesInEmptyTables finding.now scene_places store_places) }
 {
-    let smallest = Handshake {
-        initiators: 1,
-        responders: 1,
-        capacity: 1,
-        lowe: false,
-    };
-    let scene = Protocol {
-        arrangement: smallest,
-    }
-    .start();
-    let store = StoreState {
-        done: [0; 4],
-        counts: [0; 16],
-    };
+    let arrangement = Handshake::SMALLEST;
+    let scene = Protocol { arrangement }.start();
+    let store = StoreState::START;
     let mut one = Memory::new(heap, scene, scene_places)?;
     let mut two = Memory::new(heap, store, store_places)?;
     let mut scenes = Tree::new(one.entries.as_mut_slice(), one.links.as_mut_slice());
@@ -68,6 +58,7 @@ mod tests {
     use std::test::Fail;
 
     // The finding of the docket 7: a frame, the sheet, and the labels 0, 1, 1.
+    // The program of cases has the same finding: a test can't import a program.
     #[test]
     fn a_true_finding_is_accepted(rt: HostRuntime) -> Result<(), Fail> {
         let finding =

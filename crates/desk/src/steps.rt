@@ -1,4 +1,5 @@
-// The steps of a run, and their lines.
+//! The steps of a run, and their lines.
+use bodies::size::LABEL_BYTES;
 use handshake::model::Protocol;
 use handshake::rule::letter;
 use listing::lines::{InstructionLine, RuleLine};
@@ -18,7 +19,7 @@ struct Step<S> {
     next: S,
 }
 
-// Hands on each step of a run of any model, from the two bytes of each label.
+// Hands on each step of a run of any model, from the bytes of each label.
 fn each_step<M: Model, F: Fn(Step<M::State>) -> anyhow::Result<()>>(
     model: &M,
     labels: &[u8],
@@ -26,13 +27,12 @@ fn each_step<M: Model, F: Fn(Step<M::State>) -> anyhow::Result<()>>(
 ) -> anyhow::Result<()>
     requires { F.IsAlwaysCallable tell }
 {
-    let (pairs, _) = labels.as_chunks::<2>();
+    let (pairs, _) = labels.as_chunks::<LABEL_BYTES>();
     let mut from = model.start();
-    for (at, pair) in pairs.iter().enumerate() {
-        let label = u16::from_be_bytes(*pair) as usize;
+    for (number, pair) in (1..).zip(pairs) {
+        let label = usize::from(u16::from_be_bytes(*pair));
         let mut next = from;
         let _possible = model.step(&from, label, &mut next);
-        let number = at + 1;
         tell(Step {
             number,
             label,

@@ -1,7 +1,7 @@
-// Calls that must be refused, each with its fault.
+//! Calls that must be refused, each with its fault.
 use anyhow::anyhow;
 use desk::judging::judge_in_trees;
-use examination::calls::open;
+use examination::calls::{MAX_BUDGET, open};
 use examination::exam::Examination;
 use examination::trail::Link;
 use faults::Fault;
@@ -11,19 +11,18 @@ use listing::lines::FaultLine;
 use meaning::model::Model;
 use meaning::table::Table;
 use register::fault::{FileFault, Refused, WithdrawFault};
-use register::register::Register;
+use register::register::{MOST_ENTRIES, Register};
 use register::slip::Slip;
 use sheets::arrangement::Arrangement;
-use sheets::read::read;
+use sheets::read::{LONGEST, read};
 use std::alloc::{AllocError, Global};
 use std::io;
 use tables::Scatter;
 use tokens::model::TokenStore;
 use tokens::state::State;
 
-fn relay() -> &'static [u8] {
-    b"docket 7\ntokens\nagent +a -b\nagent -a +c\nbreach c\n"
-}
+// A sheet of tokens.
+const RELAY: &[u8] = b"docket 7\ntokens\nagent +a -b\nagent -a +c\nbreach c\n";
 
 // Says what was asked, and the fault that was given.
 fn say(rt: &impl Print, what: &str, fault: &impl Fault) -> io::Result<()> {
@@ -31,6 +30,7 @@ fn say(rt: &impl Print, what: &str, fault: &impl Fault) -> io::Result<()> {
     println!(rt; "{what}: {line}")
 }
 
+// Table and trail are the caller's memory, lent for a call, so these functions are given them apart, as the calls are.
 fn say_open<M: Model, T: Table<State = M::State>>(
     rt: &impl Print,
     what: &str,
@@ -119,7 +119,7 @@ fn print_running<M: Model, T: Table<State = M::State>>(
         model,
         table,
         trail,
-        65536,
+        MAX_BUDGET + 1,
     )?;
     say_advance(
         rt,
@@ -130,15 +130,7 @@ fn print_running<M: Model, T: Table<State = M::State>>(
         &mut [Link::START; 7],
         1,
     )?;
-    say_write(
-        rt,
-        "write, while it runs",
-        exam,
-        model,
-        table,
-        trail,
-        relay(),
-    )
+    say_write(rt, "write, while it runs", exam, model, table, trail, RELAY)
 }
 
 // What is asked of an examination that has ended.
@@ -157,7 +149,7 @@ fn print_ended<M: Model, T: Table<State = M::State>>(
         model,
         table,
         trail,
-        &[0; 2049],
+        &[0; LONGEST + 1],
     )?;
     say_write(
         rt,
@@ -166,7 +158,7 @@ fn print_ended<M: Model, T: Table<State = M::State>>(
         model,
         table,
         &[Link::START; 7],
-        relay(),
+        RELAY,
     )?;
     say_write(
         rt,
@@ -175,7 +167,7 @@ fn print_ended<M: Model, T: Table<State = M::State>>(
         model,
         table,
         trail,
-        relay(),
+        RELAY,
     )
 }
 
@@ -189,7 +181,7 @@ fn print_advances(rt: &impl Print, model: &TokenStore) -> anyhow::Result<()> {
     };
     let mut exam = opened;
     print_running(rt, &mut exam, model, &mut table, &mut trail)?;
-    let _taken = exam.advance(model, &mut table, &mut trail, 65535);
+    let _taken = exam.advance(model, &mut table, &mut trail, MAX_BUDGET);
     print_ended(rt, &mut exam, model, &mut table, &mut trail)?;
     Ok(())
 }
@@ -232,12 +224,11 @@ fn say_answer<F: Fault + Drop>(rt: &impl Print, what: &str, fault: Option<F>) ->
 }
 
 // The finding of that sheet: a frame, the sheet, and the labels 0, 1, 1.
-fn relay_finding() -> &'static [u8] {
-    b"\x01\x01\0\x14\0\0\0\x03\0\0\0\x18\0\0\01\0\0\0I\0\0\0\x06docket 7\ntokens\nagent +a -b\nagent -a +c\nbreach c\n\0\0\0\x01\0\x01"
-}
+const RELAY_FINDING: &[u8] =
+    b"\x01\x01\0\x14\0\0\0\x03\0\0\0\x18\0\0\01\0\0\0I\0\0\0\x06docket 7\ntokens\nagent +a -b\nagent -a +c\nbreach c\n\0\0\0\x01\0\x01";
 
 fn verdict_of(heap: Global) -> anyhow::Result<Verdict> {
-    match judge_in_trees(heap, 8, 8, relay_finding())? {
+    match judge_in_trees(heap, 8, 8, RELAY_FINDING)? {
         Ok(verdict) => Ok(verdict),
         Err(_) => Err(anyhow!("the finding is refused")),
     }
@@ -245,7 +236,7 @@ fn verdict_of(heap: Global) -> anyhow::Result<Verdict> {
 
 // Fills a register with dockets, all withdrawn.
 fn fill(heap: Global, register: &mut Register) -> Result<(), AllocError> {
-    for number in 1..65 {
+    for number in 1..=MOST_ENTRIES {
         let sheet = format!(in heap; "docket {number}\nhandshake 1 1 1 lowe\n")?;
         if let Ok(slip) = register.issue(sheet.as_str().as_bytes()) {
             let _ = register.withdraw(slip);
@@ -265,11 +256,11 @@ fn print_register(rt: &impl Print, heap: Global) -> anyhow::Result<()> {
     let first = verdict_of(heap)?;
     let second = verdict_of(heap)?;
     let mut other = Register::new();
-    let (filed, withdrawn) = match register.issue(relay()) {
+    let (filed, withdrawn) = match register.issue(RELAY) {
         Ok(slip) => file_and_withdraw(&mut other, slip, first),
         Err(_) => (None, None),
     };
-    say_issue(rt, "issue, a number that is there", &mut register, relay())?;
+    say_issue(rt, "issue, a number that is there", &mut register, RELAY)?;
     say_answer(rt, "file, in another register", filed)?;
     say_answer(rt, "withdraw, in another register", withdrawn)?;
     let (mixed, _) = match register.issue(b"docket 8\nhandshake 1 1 1 lowe\n") {
@@ -289,7 +280,7 @@ fn print_register(rt: &impl Print, heap: Global) -> anyhow::Result<()> {
 
 // Prints each call and its fault.
 pub(crate) fn print_calls(rt: &impl Print, heap: Global) -> anyhow::Result<()> {
-    let Ok(docket) = read(relay()) else {
+    let Ok(docket) = read(RELAY) else {
         return Err(anyhow!("the sheet has a fault"));
     };
     match docket.arrangement {

@@ -1,12 +1,35 @@
-// A case: a sheet to be examined, or a finding to be judged.
+//! A case: a sheet to be examined, or a finding to be judged.
+ghost use Rattle.std.specs.Prelude.{◌<◌};
+
 use bodies::kind::Kind;
 use desk::docket::handle;
 use desk::judging::judge_in_trees;
 use listing::lines::FaultLine;
 use register::register::Register;
-use std::alloc::Global;
+use std::alloc::{AllocError, Global};
+
+fn digit(b: u8) -> u8
+    ensures { result < 16 }
+{
+    match b {
+        b'0'..=b'9' => b - b'0',
+        b'a'..=b'f' => b - b'a' + 10,
+        _ => 0,
+    }
+}
+
+// The bytes that a text of hexadecimal digits tells. The kit's `hex` would refuse a text that this takes: what is no digit is 0.
+fn bytes_of(heap: Global, text: &[u8]) -> Result<Vec<u8>, AllocError> {
+    let (pairs, _) = text.as_chunks::<2>();
+    let mut bytes = Vec::new(heap);
+    for [high, low] in pairs {
+        bytes.push(digit(*high) * 16 + digit(*low))?;
+    }
+    Ok(bytes)
+}
 
 // Judges a finding in two trees of so many places.
+// `Kind` is another crate's: `Display` would need a type of this one around it.
 fn print_judged(rt: &impl Print, heap: Global, places: u16, finding: &[u8]) -> anyhow::Result<()> {
     match judge_in_trees(heap, places, places, finding)? {
         Ok(verdict) => {
@@ -27,15 +50,17 @@ pub(crate) fn print_case(rt: &impl Print, heap: Global, line: &[u8]) -> anyhow::
     let [what, digits @ ..] = line else {
         return Ok(());
     };
-    let bytes = hex::decode(heap, digits)?;
+    let bytes = bytes_of(heap, digits)?;
     let Some((places, given)) = bytes.as_slice().split_first_chunk::<2>() else {
         return Ok(());
     };
     let places = u16::from_be_bytes(*places);
-    if *what == b's' {
-        let mut register = Register::new();
-        handle(rt, heap, &mut register, places, given)
-    } else {
-        print_judged(rt, heap, places, given)
+    match *what {
+        b's' => {
+            let mut register = Register::new();
+            handle(rt, heap, &mut register, places, given)
+        }
+        // All else is judged.
+        _ => print_judged(rt, heap, places, given),
     }
 }

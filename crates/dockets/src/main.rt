@@ -1,5 +1,5 @@
-// Examples: calls that must be refused, and then the cases of standard input, a line each: `s` and a sheet to be examined,
-// or `j` and a finding to be judged, after the number of places; all in hexadecimal.
+//! Examples: calls that must be refused, and then the cases of standard input, a line each: `s` and a sheet to be examined,
+//! or `j` and a finding to be judged, after the number of places; all in hexadecimal.
 #![tactic(auto)]
 
 use calls::print_calls;

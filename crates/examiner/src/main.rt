@@ -1,4 +1,4 @@
-// Reads a sheet from standard input, examines what it describes, and prints the listing, or the sheet's fault.
+//! Reads a sheet from standard input, examines what it describes, and prints the listing, or the sheet's fault.
 #![tactic(auto)]
 
 use desk::docket::handle;

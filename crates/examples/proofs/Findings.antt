@@ -1,5 +1,5 @@
 -- What the judge answers to two findings, from what their parts come to. Assumes nothing.
-use Rattle.std.proofs.Common.{◌≡◌, ℕ, true, List, [], Ok, Err, ap, ◌∙◌, arith}
+use Rattle.std.proofs.Common.{◌≡◌, ℕ, true, List, [], Ok, Err, ap, ◌∙◌}
 use Rattle.sheets.specs.declared.arrangement.Arrangement.{Arrangement}
 use Rattle.sheets.specs.declared.arrangement.Arrangement.TheVariants.{Handshake, Tokens}
 use Rattle.sheets.specs.Reads.{shake_of, shake, tokens, plan_of, program_of, read_of}
@@ -28,7 +28,7 @@ judge-mends framed told read mended t j js =
     ap (λ (y : Judging). y.answer) d.judging ∙ go d.docket.number d.docket.arrangement d.plan
   where
     go : (i : ℕ) (a : Arrangement) → plan_of a ≡ shake (shake_of (one_each true)) → (by_model (frame_as Breach 46 10 ninth) mended_finding i a t).answer ≡ Err (Body (Label 7))
-    go i (Tokens p) e = absurd (let z : ◌≡◌ {A = ℕ} 0 1 = cc in omega arith)
+    go i (Tokens p) e = absurd (cc)
     go i (Handshake g) e =
         let s : shake_of g ≡ shake_of (one_each true) = cc in
         let same = same-shake g (one_each true) s in
@@ -45,7 +45,7 @@ judge-leaks framed told read leaks t j empty room js =
     ap (λ (y : Judging). y.answer) d.judging ∙ go d.docket.number d.docket.arrangement d.plan
   where
     go : (i : ℕ) (a : Arrangement) → plan_of a ≡ tokens tenth_program → (by_model (frame_as Closed 20 2 tenth) cut_finding i a t).answer ≡ Err (Body (Step 1 0))
-    go i (Handshake g) e = absurd (let z : ◌≡◌ {A = ℕ} 0 1 = cc in omega arith)
+    go i (Handshake g) e = absurd (cc)
     go i (Tokens q) e =
         let s : program_of q ≡ tenth_program = cc in
         (λ v. passing (plain_verdict i (e v) Closed) (body_judged (token_meaning (s v)) code_of 20 Closed 2 two_states (empty v) (room v)))

@@ -1,4 +1,4 @@
-// What a refusal tells: its number, and the values beside it.
+//! What a refusal tells: its number, and the values beside it.
 #![tactic(auto)]
 
 ghost use Rattle.std.specs.Prelude.{◌≡◌, ℕ};
@@ -19,9 +19,11 @@ pub trait Fault {
 
     ghost values_of: { Self → Values };
 
+    /// The number by which the call's faults are told apart.
     fn number(&self) -> u8
         ensures { result ≡ number_of self.now };
 
+    /// What stands beside the number.
     fn values(&self) -> Values
         ensures { result ≡ values_of self.now };
 }

@@ -2,7 +2,7 @@
 use Rattle.std.proofs.Common.{◌≡◌, ℕ, ◌*◌, ◌<◌, ◌≤◌, Bool, true, false, cond, List, [], length, Some, Ok, Err, Result, sym, refl, ap, ◌∙◌, subst, mul-le-mul, arith}
 use mathlib.Core.HLevel.{is_prop→PathP}
 use native.Mathlib.Bridge.{le_prop}
-use Rattle.std.proofs.lemmas.Bool.{cond-false, le-ltb}
+use Rattle.std.proofs.lemmas.Bool.{cond-false, le-ltb, le-leb, eq-eqb, and_from}
 use Rattle.sheets.specs.declared.arrangement.Arrangement.{Arrangement}
 use Rattle.sheets.specs.declared.arrangement.Arrangement.TheVariants.{Handshake, Tokens}
 use Rattle.sheets.specs.declared.arrangement.Handshake as shake
@@ -12,8 +12,6 @@ use Rattle.sheets.specs.declared.fault.SheetFault.{SheetFault}
 use Rattle.sheets.specs.Reads.{Shake, shake_of, Sheet, Plan, plan_of, sheet_of, read_of, sheet_read}
 use Rattle.meaning.specs.Codes.{IsCode}
 use Rattle.meaning.specs.Meaning.{Meaning, IsModel, Reads}
-use Rattle.handshake.specs.declared.state.State as scene
-use Rattle.tokens.specs.declared.state.State as store
 use Rattle.handshake.specs.States.{state_code}
 use Rattle.handshake.specs.Reads.{handshake_meaning}
 use Rattle.tokens.specs.States.{code_of}
@@ -23,7 +21,7 @@ use Rattle.examination.specs.declared.trail.Link.{Link}
 use Rattle.examination.specs.declared.fault.OpenFault.TheVariants.{Unfit}
 use Rattle.examination.specs.Search.{Search, opened, row}
 use Rattle.examination.specs.Theorems.{CountsAgree}
-use Rattle.examination.specs.Calls.{fresh}
+use Rattle.examination.specs.Calls.{fresh, matching}
 use Rattle.examination.specs.CallRows.{called, accepted}
 use Rattle.examination.proofs.Results.{search-stands}
 use Rattle.examination.proofs.CallRows.{fresh-is, called_is}
@@ -35,16 +33,16 @@ use Rattle.bodies.specs.Trips.{kind_of, body_wide, given, BodyIsAccepted}
 use Rattle.bodies.proofs.Trips.{bodies-stand}
 use Rattle.findings.specs.declared.frame.Frame as frame
 use Rattle.findings.specs.Frames.{finding, frame_of, sheet_in, body_in}
-use Rattle.findings.specs.Writes.{of_kind, fitting, finding_of}
+use Rattle.findings.specs.Writes.{of_kind, finding_of}
 use Rattle.findings.specs.Judges.{plain_verdict, passing, LentTables, Judging, by_model, by_sheet, by_frame, ReadIn, IsJudged}
-use Rattle.findings.specs.Stands.{frame_as, IsFindingOf, EndedSearchesHaveFindings, JudgedAsWritten, EmptyScenes, EmptyStores, JudgeAcceptsWhatIsWritten}
+use Rattle.findings.specs.Stands.{frame_as, IsFindingOf, EndedSearchesHaveFindings, JudgedAsWritten, JudgeAcceptsWhatIsWritten}
 use Rattle.findings.proofs.Framed.{frame-done, sheet-done, body-done}
 use Rattle.findings.proofs.Written.{found-by}
 use Rattle.findings.proofs.Trailed.{row-long, opened-long}
 
 open-parts : {S : Type 0} (b : Bool) (o x : Search S) → cond b (Ok o) (Err Unfit) ≡ Ok x → (b ≡ true) × (o ≡ x)
 open-parts true o x e = (refl, let q : o ≡ x = cc in q)
-open-parts false o x e = absurd (let z : ◌≡◌ {A = ℕ} 0 1 = cc in omega arith)
+open-parts false o x e = absurd (cc)
 
 wide-small : (k : Kind) (width : ℕ) → width ≤ 65535 → body_wide width k ≤ 65535
 wide-small Breach width h = omega arith
@@ -73,7 +71,7 @@ module _ {S : Type 0} (m : Meaning S) (code : S → List ℕ) (width : ℕ) (law
 
     found : finding_of code width places z.list z.trail z.exam sheet ≡ Ok (finding k width b.number sheet b.bytes)
     found =
-        found-by code width places z.list z.trail z.exam sheet k b short ends (sym numbers.stored) trail ((bodies-stand m code width laws codes reads).told places ts bs k some wide ends)
+        found-by code width places z.list z.trail z.exam sheet k b short ends (and_from _ _ (eq-eqb _ _ (sym numbers.stored)) (le-leb _ _ trail)) ((bodies-stand m code width laws codes reads).told places ts bs k some wide ends)
 
     few : b.number ≤ 65535
     few = let f = trip.few in let r = numbers.room in omega (arith, f, r)
@@ -110,7 +108,7 @@ module _ {S : Type 0} (m : Meaning S) (code : S → List ℕ) (width : ℕ) (law
         (row-given places ts small f.some f.wide (accepted m code places bs (opened m code places ts)) k sheet short (subst (λ (y : Search S). kind_of y.exam.outcome ≡ Some k) is g))) h;
     none = λ places x sheet h short.
         cond-false _ _ _ (le-ltb 2048 (length sheet) short)
-        ∙ ap (λ o. of_kind o (fitting places x.list x.trail x.exam) width sheet (body_of code x.list x.trail x.exam.outcome)) h;
+        ∙ ap (λ o. of_kind o (matching places x) width sheet (body_of code x.list x.trail x.exam.outcome)) h;
   }
 
 -- ---- the judge
@@ -143,7 +141,7 @@ module _ (f : frame.Frame) (w sheet : List ℕ) (n : ℕ) (p : Plan) (framed : f
     pub judging : j ≡ by_model f w docket.number docket.arrangement t
 
   docketed-by : (d : Result Docket SheetFault) (j : Judging) → sheet_read d ≡ read_of (sheet_in f w) → j ≡ by_sheet f w d t → Docketed j
-  docketed-by (Err e) j r q = absurd (let s : ◌≡◌ {A = Result Sheet SheetFault} (Err e) (Ok (record { number = n; plan = p })) = r ∙ ap read_of told ∙ read in let z : ◌≡◌ {A = ℕ} 0 1 = cc in omega arith)
+  docketed-by (Err e) j r q = absurd (let s : ◌≡◌ {A = Result Sheet SheetFault} (Err e) (Ok (record { number = n; plan = p })) = r ∙ ap read_of told ∙ read in cc)
   docketed-by (Ok d) j r q =
       let s : ◌≡◌ {A = Result Sheet SheetFault} (Ok (sheet_of d)) (Ok (record { number = n; plan = p })) = r ∙ ap read_of told ∙ read in
       let u : sheet_of d ≡ record { number = n; plan = p } = cc in
@@ -152,34 +150,37 @@ module _ (f : frame.Frame) (w sheet : List ℕ) (n : ℕ) (p : Plan) (framed : f
   pub docketed : (j : Judging) → IsJudged w t j → Docketed j
   docketed j (d, r, q) = docketed-by d j (subst (λ x. ReadIn x w d) framed r) (q ∙ ap (λ x. by_frame x w d t) framed)
 
-scenes-right : (h : shake.Handshake) → JudgedAsWritten (handshake_meaning h) state_code 46 (Handshake h) EmptyScenes
-scenes-right h x sheet w k sh n read t em j js =
-    let d = docketed (frame_as k 46 sh.count sheet) w sheet n (plan_of (Handshake h)) sh.framed sh.told read t j js in
-    ap (λ (y : Judging). y.answer) d.judging ∙ go d.docket.number d.docket.arrangement d.plan d.number
-  where
-    go : (i : ℕ) (a : Arrangement) → plan_of a ≡ plan_of (Handshake h) → i ≡ n → (by_model (frame_as k 46 sh.count sheet) w i a t).answer ≡ Ok (plain_verdict n (plan_of (Handshake h)) k)
-    go i (Tokens p) e u = absurd (let z : ◌≡◌ {A = ℕ} 0 1 = cc in omega arith)
-    go i (Handshake g) e u =
-        let s : shake_of g ≡ shake_of h = cc in
-        let same = same-shake g h s in
-        let few = sh.few in
-        let room : sh.count ≤ t.scene_room = omega (arith, few, em.1) in
-        (λ v. passing (plain_verdict (u v) (plan_of (Handshake (same v))) k) (judged (handshake_meaning (same v)) state_code 46 k sh.count (body_in (frame_as k 46 sh.count sheet) w) (em.0 v) t.scene_room).answer)
-        ∙ ap (λ (y : Judged scene.State). passing (plain_verdict n (plan_of (Handshake h)) k) y.answer) (sh.accepted t.scene_room room)
+-- the judge of what was written behind a sheet of the arrangement a, which is judged as a model by a table of these states and places
+module _ {S : Type 0} (m : Meaning S) (code : S → List ℕ) (width : ℕ) (a : Arrangement) (list : LentTables → List S) (room : LentTables → ℕ) where
+  abbrev Judges : Type 0
+  Judges =
+      (k : Kind) (count : ℕ) (sheet w : List ℕ) (n : ℕ) (b : Arrangement) (t : LentTables) → plan_of b ≡ plan_of a
+      → (by_model (frame_as k width count sheet) w n b t).answer ≡ passing (plain_verdict n (plan_of a) k) (judged m code width k count (body_in (frame_as k width count sheet) w) (list t) (room t)).answer
 
-stores-right : (p : program.Tokens) → JudgedAsWritten (token_meaning (program_of p)) code_of 20 (Tokens p) EmptyStores
-stores-right p x sheet w k sh n read t em j js =
-    let d = docketed (frame_as k 20 sh.count sheet) w sheet n (plan_of (Tokens p)) sh.framed sh.told read t j js in
-    ap (λ (y : Judging). y.answer) d.judging ∙ go d.docket.number d.docket.arrangement d.plan d.number
-  where
-    go : (i : ℕ) (a : Arrangement) → plan_of a ≡ plan_of (Tokens p) → i ≡ n → (by_model (frame_as k 20 sh.count sheet) w i a t).answer ≡ Ok (plain_verdict n (plan_of (Tokens p)) k)
-    go i (Handshake g) e u = absurd (let z : ◌≡◌ {A = ℕ} 0 1 = cc in omega arith)
-    go i (Tokens q) e u =
-        let s : program_of q ≡ program_of p = cc in
-        let few = sh.few in
-        let room : sh.count ≤ t.store_room = omega (arith, few, em.1) in
-        (λ v. passing (plain_verdict (u v) (e v) k) (judged (token_meaning (s v)) code_of 20 k sh.count (body_in (frame_as k 20 sh.count sheet) w) (em.0 v) t.store_room).answer)
-        ∙ ap (λ (y : Judged store.State). passing (plain_verdict n (plan_of (Tokens p)) k) y.answer) (sh.accepted t.store_room room)
+  right : Judges → JudgedAsWritten m code width a (λ t n. (list t ≡ []) × (n ≤ room t))
+  right judges x sheet w k sh n read t em j js =
+      let d = docketed (frame_as k width sh.count sheet) w sheet n (plan_of a) sh.framed sh.told read t j js in
+      let few = sh.few in
+      ap (λ (y : Judging). y.answer) d.judging
+      ∙ judges k sh.count sheet w d.docket.number d.docket.arrangement t d.plan
+      ∙ (λ v. passing (plain_verdict (d.number v) (plan_of a) k) (judged m code width k sh.count (body_in (frame_as k width sh.count sheet) w) (em.0 v) (room t)).answer)
+      ∙ ap (λ (y : Judged S). passing (plain_verdict n (plan_of a) k) y.answer) (sh.accepted (room t) (omega (arith, few, em.1)))
+
+by-scenes : (h : shake.Handshake) → Judges (handshake_meaning h) state_code 46 (Handshake h) (λ t. t.scenes) (λ t. t.scene_room)
+by-scenes h k count sheet w n (Tokens p) t e = absurd (cc)
+by-scenes h k count sheet w n (Handshake g) t e =
+    let s : shake_of g ≡ shake_of h = cc in
+    let same = same-shake g h s in
+    λ v. passing (plain_verdict n (plan_of (Handshake (same v))) k) (judged (handshake_meaning (same v)) state_code 46 k count (body_in (frame_as k 46 count sheet) w) t.scenes t.scene_room).answer
+
+by-stores : (p : program.Tokens) → Judges (token_meaning (program_of p)) code_of 20 (Tokens p) (λ t. t.stores) (λ t. t.store_room)
+by-stores p k count sheet w n (Handshake g) t e = absurd (cc)
+by-stores p k count sheet w n (Tokens q) t e =
+    let s : program_of q ≡ program_of p = cc in
+    λ v. passing (plain_verdict n (e v) k) (judged (token_meaning (s v)) code_of 20 k count (body_in (frame_as k 20 count sheet) w) t.stores t.store_room).answer
 
 pub judge-accepts : JudgeAcceptsWhatIsWritten
-judge-accepts = record { handshakes = scenes-right; stores = stores-right }
+judge-accepts = record {
+  handshakes = λ h. right (handshake_meaning h) state_code 46 (Handshake h) (λ t. t.scenes) (λ t. t.scene_room) (by-scenes h);
+  stores = λ p. right (token_meaning (program_of p)) code_of 20 (Tokens p) (λ t. t.stores) (λ t. t.store_room) (by-stores p);
+}

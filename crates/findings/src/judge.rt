@@ -1,4 +1,4 @@
-// The judge: accepts exactly the findings that are true, whatever bytes it is given.
+//! The judge: accepts exactly the findings that are true, whatever bytes it is given.
 ghost use Rattle.std.specs.Prelude.{◌≡◌, Ok};
 ghost use Rattle.bodies.specs.Acceptance.{Truth};
 ghost use Rattle.findings.specs.Judges.{IsJudged, LentTables, Judging, judged_as_model, plain_answer};
@@ -36,8 +36,8 @@ fn judge_as<M: Model, T: Table<State = M::State>>(
     Ok(())
 }
 
-// Judges the bytes of a finding. The sheet in it decides the kind of state, so a table for each is lent, and the one that
-// does not fit is neither tested nor changed.
+/// Judges the bytes of a finding. The sheet in it decides the kind of state, so a table for each is lent, and the one that
+/// does not fit is neither tested nor changed.
 pub fn judge<T: Table<State = SceneState>, U: Table<State = StoreState>>(
     finding: &[u8],
     scenes: &mut T,

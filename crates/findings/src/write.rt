@@ -1,7 +1,6 @@
-// Writing the finding of an examination.
+//! Writing the finding of an examination.
 ghost use Rattle.std.specs.Prelude.{◌≡◌, length};
 ghost use Rattle.examination.specs.Search.{exam_of};
-ghost use Rattle.bodies.specs.Trips.{kind_of};
 ghost use Rattle.findings.specs.Writes.{finding_of, write_answer, write_left};
 
 use crate::fault::WriteFault;
@@ -10,28 +9,13 @@ use bodies::kind::Kind;
 use bodies::measure::body_size;
 use bodies::write::write_body;
 use examination::exam::Examination;
-use examination::outcome::Outcome;
 use examination::trail::Link;
 use meaning::coded::Coded;
 use meaning::model::Model;
 use meaning::table::Table;
+use sheets::read::LONGEST;
 
-// As many bytes as a sheet may have.
-const SHEET_MOST: usize = 2048;
-
-// The kind of finding that an outcome gives, if any. Both types are other crates', so this is no From.
-fn kind_of(outcome: Outcome) -> Option<Kind>
-    ensures { result ≡ kind_of outcome }
-{
-    match outcome {
-        Outcome::Running => None,
-        Outcome::Breach(_) => Some(Kind::Breach),
-        Outcome::Closed => Some(Kind::Closed),
-        Outcome::Exhausted => None,
-    }
-}
-
-// Writes the finding of an examination at the start of a buffer, and leaves the rest of it; answers how long it is.
+/// Writes the finding of an examination at the start of a buffer, and leaves the rest of it; answers how long it is.
 pub fn write<M: Model, T: Table<State = M::State>>(
     exam: &Examination,
     model: &M,
@@ -43,14 +27,12 @@ pub fn write<M: Model, T: Table<State = M::State>>(
     ensures answer { result ≡ write_answer (length out.old) (finding_of M.State.Coded.code M.State.Coded.width (T.room table.now) (T.list table.now) trail.now (exam_of exam.now) sheet.now) }
     ensures out { out.new ≡ write_left out.old (finding_of M.State.Coded.code M.State.Coded.width (T.room table.now) (T.list table.now) trail.now (exam_of exam.now) sheet.now) }
 {
-    if sheet.len() > SHEET_MOST {
+    if sheet.len() > LONGEST {
         return Err(WriteFault::Long);
     }
     let outcome = exam.outcome();
-    let Some(kind) = kind_of(outcome) else {
-        return Err(WriteFault::Unfinished);
-    };
-    if table.count() != exam.standing().stored || trail.len() < table.places() {
+    let kind = Kind::try_from(outcome)?;
+    if !exam.matches(table, trail) {
         return Err(WriteFault::Mismatch);
     }
     let size = body_size(model, table, trail, outcome)?;
@@ -59,6 +41,7 @@ pub fn write<M: Model, T: Table<State = M::State>>(
     if out.len() < needed {
         return Err(WriteFault::Short(needed));
     }
+    // Each fits, which the check proves; `try_from` would add refusals that cannot come.
     let frame = Frame {
         kind,
         width: model.code_width() as u16,

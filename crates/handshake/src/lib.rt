@@ -1,4 +1,4 @@
-// The public-key handshake, with an intruder who owns the network, as a model.
+//! The public-key handshake, with an intruder who owns the network, as a model.
 #![tactic(auto)]
 
 pub mod attack;
@@ -8,7 +8,6 @@ mod lawful;
 mod message;
 pub mod model;
 mod network;
-pub mod nonces;
 mod perform;
 mod places;
 mod read;

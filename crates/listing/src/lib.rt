@@ -1,4 +1,4 @@
-// The lines that a program prints of an examination.
+//! The lines that a program prints of an examination.
 #![tactic(auto)]
 
 pub mod lines;

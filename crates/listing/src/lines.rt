@@ -1,4 +1,4 @@
-// The lines of a listing.
+//! The lines of a listing.
 ghost use Rattle.std.specs.Prelude.{◌≡◌, Some};
 ghost use Rattle.listing.specs.Lines.{ending_text, head_text, instruction_text, rule_text, tail_text, fault_text};
 

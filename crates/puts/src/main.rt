@@ -1,4 +1,4 @@
-// Puts 65,535 states in rising order in each table, and again, and prints how many comparisons a put makes.
+//! Puts 65,535 states in rising order in each table, and again, and prints how many comparisons a put makes.
 #![tactic(auto)]
 
 use mark::Mark;
@@ -19,7 +19,7 @@ const INDEX_SLOTS: usize = 131070;
 const TREE_LINKS: usize = 131071;
 
 // What a row of puts cost: comparisons in all, and of the put that made most.
-#[derive(Clone, Copy)]
+#[derive(Clone, Copy, Debug, PartialEq, Eq)]
 struct Cost {
     all: usize,
     most: usize,
@@ -36,7 +36,7 @@ impl Cost {
     }
 
     fn print(&self, rt: &impl Print, what: &str) -> io::Result<()> {
-        let puts = STATES as usize;
+        let puts = usize::from(STATES);
         let whole = self.all / puts;
         let hundredths = self.all % puts * 100 / puts;
         let most = self.most;
@@ -45,6 +45,7 @@ impl Cost {
 }
 
 // The memory of a table with a place for each state, and of the answers to a row.
+// Tables allocate nothing, so each program makes the memory that it lends.
 #[derive(Drop)]
 struct Memory {
     entries: Vec<Mark>,
@@ -54,9 +55,9 @@ struct Memory {
 
 impl Memory {
     fn new(heap: Global, slots: usize) -> Result<Memory, AllocError> {
-        let entries = vec![in heap; Mark { number: 0 }; STATES as usize]?;
+        let entries = vec![in heap; Mark { number: 0 }; usize::from(STATES)]?;
         let slots = vec![in heap; 0u32; slots]?;
-        let answers = vec![in heap; Placed::Exhausted; STATES as usize]?;
+        let answers = vec![in heap; Placed::Exhausted; usize::from(STATES)]?;
         Ok(Memory {
             entries,
             slots,

@@ -1,4 +1,4 @@
-// A small kind of state: a number under 65,536.
+//! A small kind of state: a number under 65,536.
 ghost use Rattle.puts.specs.Marks.{mark_code, mark_scattered, mark_laws, mark_compared};
 
 use meaning::coded::Coded;
@@ -9,6 +9,7 @@ const SPREAD: usize = 2654435761;
 // The largest prime under 2^32.
 const PRIME: usize = 4294967291;
 
+/// A state that is a number.
 #[derive(Clone, Copy, Debug, PartialEq, Eq, PartialOrd, Ord)]
 pub struct Mark {
     pub number: u16,
@@ -26,7 +27,7 @@ impl Coded for Mark {
     ghost compared = { mark_compared };
 
     fn scatter(&self) -> usize {
-        let spread = self.number as usize * SPREAD % PRIME;
+        let spread = usize::from(self.number) * SPREAD % PRIME;
         spread.wrapping_mul(spread) % PRIME
     }
 

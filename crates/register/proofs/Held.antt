@@ -1,5 +1,5 @@
 -- What is filed is true: of each entry that a register holds.
-use Rattle.std.proofs.Common.{◌≡◌, ℕ, zero, suc, Bool, true, false, cond, ◌&&◌, eqb, List, [], ◌∷◌, ◌++◌, Some, None, Ok, Err, Option, Result, sym, refl, ap, ◌∙◌, subst, arith}
+use Rattle.std.proofs.Common.{◌≡◌, ℕ, zero, suc, Bool, true, false, cond, ◌&&◌, eqb, List, [], ◌∷◌, ◌++◌, Some, None, Ok, Err, Option, Result, sym, refl, ap, ◌∙◌, subst}
 use mathlib.Core.Logic.{∥∥₁_elim, ∥∥₁_map}
 use Rattle.std.specs.List.{slice_get}
 use Rattle.std.proofs.lemmas.Bool.{and_parts}
@@ -22,13 +22,13 @@ use Rattle.register.specs.declared.fault.FileFault.{FileFault}
 use Rattle.register.specs.declared.fault.FileFault.TheVariants.{OtherDocket}
 
 pub open-filed : {P : Type 0} (k : Kind) → Open ≡ Filed k → P
-open-filed k e = let z : ◌≡◌ {A = ℕ} 0 1 = cc in absurd (omega arith)
+open-filed k e = absurd (cc)
 
 withdrawn-filed : {P : Type 0} (k : Kind) → Withdrawn ≡ Filed k → P
-withdrawn-filed k e = let z : ◌≡◌ {A = ℕ} 0 1 = cc in absurd (omega arith)
+withdrawn-filed k e = absurd (cc)
 
 pub none-some : {X P : Type 0} (x : X) → None ≡ Some x → P
-none-some x e = let z : ◌≡◌ {A = ℕ} 0 1 = cc in absurd (omega arith)
+none-some x e = absurd (cc)
 
 pub sound-open : (s : Sheet) → FiledKindIsTrue (opened s)
 unfolding FiledKindIsTrue

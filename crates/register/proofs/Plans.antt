@@ -85,16 +85,13 @@ plans-compared p q = (plan-equal p q, plan-same p q)
 
 -- `==` of arrangements
 
-same-is : (a b : Arrangement) → (arrangements.ghosts).eq a b ≡ same_plan (plan_of a) (plan_of b)
-same-is (Handshake h) (Handshake g) = refl
-same-is (Handshake h) (Tokens u) = refl
-same-is (Tokens t) (Handshake g) = refl
-same-is (Tokens t) (Tokens u) =
+pub same_is : (a b : Arrangement) → (arrangements.ghosts).eq a b ≡ same_plan (plan_of a) (plan_of b)
+same_is (Handshake h) (Handshake g) = refl
+same_is (Handshake h) (Tokens u) = refl
+same_is (Tokens t) (Handshake g) = refl
+same_is (Tokens t) (Tokens u) =
     and_comm (pointwise (λ (a b : FixedList Act 8). same_acts (held a) (held b)) (held t.lines) (held u.lines)) (eqb t.breach u.breach)
     ∙ ap (λ (b : Bool). eqb t.breach u.breach && b) (sym (pointwise-map held same_acts (held t.lines) (held u.lines)))
-
-pub same-told : (a b m : Arrangement) (r : Bool) → m ≡ a → r ≡ (arrangements.ghosts).eq m b → r ≡ same_plan (plan_of a) (plan_of b)
-same-told a b m r e h = h ∙ same-is m b ∙ ap (λ (x : Arrangement). same_plan (plan_of x) (plan_of b)) e
 
 -- arrangements of one plan
 

@@ -1,4 +1,4 @@
-// Reads sheets from standard input, each ended by `~`, and prints a line for each: what it describes, or its fault.
+//! Reads sheets from standard input, each ended by `~`, and prints a line for each: what it describes, or its fault.
 #![tactic(auto)]
 
 use sheets::arrangement::{Arrangement, Handshake, Tokens};
@@ -9,6 +9,7 @@ use std::io::Read;
 // Stands after each sheet.
 const END: u8 = b'~';
 
+// Printed by functions: the types are another crate's, and `Display` would need a type of this one around each.
 fn print_line(rt: &HostRuntime, line: &Line) -> anyhow::Result<()> {
     print!(rt; " agent")?;
     for act in line.as_slice() {

@@ -53,8 +53,12 @@ abbrev pub and_then : {X Y : Type 0} → Got X → (X → ℕ → Got Y) → Got
 and_then (Ok p) f = f p.0 p.1
 and_then (Err e) f = Err e
 
+-- a byte is at a place
+abbrev pub byte_at : ℕ → List ℕ → ℕ → Bool
+byte_at s b at = nat_lt at (length b) && slice_index b at == s
+
 abbrev pub separator_at : ℕ → List ℕ → ℕ → Got (Unit {0})
-separator_at s b at = cond (nat_lt at (length b) && slice_index b at == s) (Ok (tt, at + 1)) (Err (stop b at))
+separator_at s b at = cond (byte_at s b at) (Ok (tt, at + 1)) (Err (stop b at))
 
 -- the keyword w, where a word k stands at a place
 abbrev pub keyword_in : List ℕ → List ℕ → ℕ → Option Kind → Got (Unit {0})
@@ -153,7 +157,7 @@ abbrev pub act_at : Sofar → List ℕ → ℕ → Got Sofar
 act_at s b at = act_in s b at (word_at b at)
 
 abbrev pub space_at : List ℕ → ℕ → Bool
-space_at b at = nat_lt at (length b) && slice_index b at == 32
+space_at = byte_at 32
 
 -- instructions up to the line's end, of which there are at most so many
 unfoldable pub acts_at : ℕ → Sofar → List ℕ → ℕ → Got Sofar

@@ -1,5 +1,5 @@
 -- The words of a sheet, by place. Assumes nothing.
-use Rattle.std.specs.Prelude.{ℕ, ◌+◌, ◌-◌, ◌*◌, Bool, cond, not, ◌&&◌, ◌||◌, List, [], ◌∷◌, length, take, drop, Some, None, codes, Option, ◌==◌, nat_le, slice_index}
+use Rattle.std.specs.Prelude.{ℕ, ◌+◌, ◌-◌, ◌*◌, Bool, cond, not, ◌&&◌, ◌||◌, List, [], ◌∷◌, length, take, drop, Some, None, codes, Option, ◌==◌, nat_le, slice_index, ◌^◌, min}
 use Rattle.std.specs.List.{list_all, prefix_len}
 use Rattle.std.specs.Str.{bytes_eq}
 use Rattle.sheets.specs.Programs.{sign}
@@ -53,3 +53,7 @@ kind_of t =
 abbrev pub read_on : ℕ → List ℕ → ℕ
 read_on n [] = n
 read_on n (c ∷ cs) = read_on (n * 10 + (c - 48)) cs
+
+-- one digit more, as far as 32 bits hold it
+abbrev pub digit_on : ℕ → ℕ → ℕ
+digit_on n c = min (min (n * 10) (2 ^ 32 - 1) + (c - 48)) (2 ^ 32 - 1)

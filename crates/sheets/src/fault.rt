@@ -1,4 +1,4 @@
-// Why a sheet is refused, with the place of the first offending byte.
+//! Why a sheet is refused, with the place of the first offending byte.
 ghost use Rattle.std.specs.Prelude.{◌≡◌, Some};
 ghost use Rattle.sheets.specs.Faults.{number_of as fault_number, values_of as fault_values, place_of, fault_line};
 
@@ -6,6 +6,7 @@ use crate::read::LONGEST;
 use faults::{Fault, Values};
 use std::fmt;
 
+/// Over 2,048 bytes; a word or separator that may not stand at a place; a number or name out of its range at a place; the end, where more was due.
 #[derive(Clone, Copy, Debug, PartialEq, Eq)]
 pub enum SheetFault {
     TooLong,
@@ -15,6 +16,7 @@ pub enum SheetFault {
 }
 
 impl SheetFault {
+    /// The offset of the first offending byte: the length where the sheet ends too early, and 2,048 where it is too long.
     pub fn place(self) -> usize
         ensures { result ≡ place_of self }
     {
@@ -47,7 +49,8 @@ impl Fault for SheetFault {
     }
 }
 
-// The line that a program prints of a fault: its number and its place.
+// The line that a program prints of a fault: its number and its place. A sheet's fault always has one value beside its
+// number, so this takes no cases of `Values`, as the line of any fault does.
 impl fmt::Display for SheetFault {
     ghost output = { λ fault. Some (fault_line fault) };
 

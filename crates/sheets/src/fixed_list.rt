@@ -7,10 +7,10 @@ use std::alloc::AllocError;
 use std::fmt;
 
 /// The first `count` places hold the items; what the others hold has no meaning.
-// The kit's `arrayvec` is no copy and asks its items for a default; arrangements hold such lists, and are copied.
+/// The kit's `arrayvec` is no copy and asks its items for a default; arrangements hold such lists, and are copied.
 pub struct FixedList<T, const N: usize> {
-    pub items: [T; N],
-    pub count: usize,
+    items: [T; N],
+    count: usize,
     ghost few: { count ≤ N },
     ghost long: { length items ≡ N },
 }
@@ -28,24 +28,28 @@ impl<T: Copy, const N: usize> FixedList<T, N> {
         }
     }
 
+    /// How many items it holds.
     pub fn len(&self) -> usize
         ensures { result ≡ length (held self.now) }
     {
         self.count
     }
 
+    /// Whether it holds no item.
     pub fn is_empty(&self) -> bool
         ensures { result ≡ (length (held self.now) == 0) }
     {
         self.len() == 0
     }
 
+    /// Whether it has room for no more.
     pub fn is_full(&self) -> bool
         ensures { result ≡ nat_le N (length (held self.now)) }
     {
         self.len() >= N
     }
 
+    /// The items that it holds, in order.
     pub fn as_slice(&self) -> &[T]
         ensures { result.now ≡ held self.now }
     {
@@ -92,7 +96,7 @@ impl<T: Copy, const N: usize> FixedList<T, N> {
 
 impl<T: Copy, const N: usize> Copy for FixedList<T, N> {}
 
-// By hand, since a generic struct with a ghost field has no derive of it.
+// By hand: of a generic struct with a ghost field `Clone` cannot be derived, with `Copy` or without.
 impl<T: Copy, const N: usize> Clone for FixedList<T, N> {
     ghost is_clone = { λ list copy. copy ≡ list };
 
@@ -122,6 +126,7 @@ impl<T: Eq + Copy, const N: usize> Eq for FixedList<T, N> {
     ghost laws = { on_equiv held (lists_equiv T.Eq.laws) };
 }
 
+// A derive would print the places that hold no item too.
 impl<T: fmt::Debug + Copy, const N: usize> fmt::Debug for FixedList<T, N> {
     fn fmt<W: fmt::Write>(&self, f: &mut fmt::Formatter<W>) -> fmt::Result {
         f.debug_list().entries(self.as_slice()).finish()

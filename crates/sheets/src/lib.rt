@@ -1,4 +1,4 @@
-// Sheets: text that describes a docket, read into its number and its arrangement.
+//! Sheets: text that describes a docket, read into its number and its arrangement.
 #![tactic(auto)]
 
 pub mod arrangement;
@@ -7,7 +7,6 @@ pub mod fixed_list;
 mod grammar;
 pub mod line;
 pub mod names;
-mod naming;
 pub mod read;
 mod reader;
 mod words;

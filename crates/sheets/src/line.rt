@@ -1,4 +1,4 @@
-// An agent's line of instructions.
+//! An agent's line of instructions.
 use crate::fixed_list::FixedList;
 
 /// No line has more instructions.

@@ -1,4 +1,4 @@
-// Reading a whole sheet.
+//! Reading a whole sheet.
 ghost use Rattle.std.specs.Prelude.{◌≡◌};
 ghost use Rattle.sheets.specs.Names.{names_of};
 ghost use Rattle.sheets.specs.Reads.{named_of, names_after, unnamed, read_of, sheet_read};
@@ -10,8 +10,8 @@ use crate::fault::SheetFault;
 use crate::names::Names;
 use crate::reader::Reader;
 
-// No sheet has more bytes.
-pub(crate) const LONGEST: usize = 2048;
+/// No sheet has more bytes.
+pub const LONGEST: usize = 2048;
 
 /// The docket that a sheet describes; the names of its tokens go to `names`, which stay as they were where the sheet is refused.
 #[tactic(auto, unfolding(crate::specs::Reads::named_of))]

@@ -1,6 +1,7 @@
-// Reading a sheet from left to right, word by word.
+//! Reading a sheet from left to right, word by word. That the sheet stays is a fact of two readers, before and after a call,
+//! so no ghost field can say it: each contract does.
 ghost use Rattle.std.specs.Prelude.{◌≡◌, ◌+◌, ◌≤◌, IfOk, if◌then◌else◌};
-ghost use Rattle.sheets.specs.Reads.{Sees, stop, got, separator_at, keyword_at, number_at, spaced_at, either_at, space_at, end_at};
+ghost use Rattle.sheets.specs.Reads.{Sees, stop, got, separator_at, keyword_at, number_at, spaced_at, either_at, byte_at, end_at};
 
 use crate::fault::SheetFault;
 use crate::words::{Placed, SPACE, Word, classed, text_at, value_up_to};
@@ -41,8 +42,7 @@ impl<'a> Reader<'a> {
         ensures reads { got result self.new.at ≡ separator_at wanted self.old.sheet.now self.old.at }
         ensures same { self.new.sheet ≡ self.old.sheet }
     {
-        if self.sheet.get(self.at) == Some(&wanted) {
-            self.at += 1;
+        if self.skip(wanted) {
             Ok(())
         } else {
             Err(self.stopped())
@@ -91,7 +91,7 @@ impl<'a> Reader<'a> {
         self.number(low, high)
     }
 
-    // One of two keywords: is it the second?
+    // One of two keywords: is it the second? A bool, since the field that it fills is one.
     pub(crate) fn either(&mut self, no: &[u8], yes: &[u8]) -> Result<bool, SheetFault>
         ensures reads { got result self.new.at ≡ either_at no.now yes.now self.old.sheet.now self.old.at }
         ensures same { self.new.sheet ≡ self.old.sheet }
@@ -106,13 +106,13 @@ impl<'a> Reader<'a> {
         }
     }
 
-    // Goes past a space, if one is there.
-    pub(crate) fn space(&mut self) -> bool
-        ensures is { result ≡ space_at self.old.sheet.now self.old.at }
+    // Goes past a space or a line end, if it is there.
+    pub(crate) fn skip(&mut self, wanted: u8) -> bool
+        ensures is { result ≡ byte_at wanted self.old.sheet.now self.old.at }
         ensures next { self.new.at ≡ (if result then self.old.at + 1 else self.old.at) }
         ensures same { self.new.sheet ≡ self.old.sheet }
     {
-        if self.sheet.get(self.at) == Some(&SPACE) {
+        if self.sheet.get(self.at) == Some(&wanted) {
             self.at += 1;
             true
         } else {

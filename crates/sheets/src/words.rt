@@ -1,7 +1,7 @@
-// The words of a sheet: the longest runs of bytes other than space and line end.
-ghost use Rattle.std.specs.Prelude.{◌≡◌, drop, if◌then◌else◌, Some, None, nat_le, slice_index};
+//! The words of a sheet: the longest runs of bytes other than space and line end.
+ghost use Rattle.std.specs.Prelude.{◌≡◌, drop, fold, if◌then◌else◌, Some, None, nat_le, slice_index};
 ghost use Rattle.std.specs.List.{list_all};
-ghost use Rattle.sheets.specs.Words.{text_at, within, is_name, is_number, is_instruction, is_keyword, kind_of, read_on};
+ghost use Rattle.sheets.specs.Words.{text_at, within, is_name, is_number, is_instruction, is_keyword, kind_of, read_on, digit_on};
 ghost use Rattle.sheets.specs.Words.{solid as solid_byte};
 ghost use Rattle.sheets.specs.Programs.{sign as sign_code};
 ghost use Rattle.sheets.specs.Reads.{word_in};
@@ -30,7 +30,7 @@ pub(crate) const BREACH: &[u8] = b"breach";
 const KEYWORDS: [&[u8]; 7] = [DOCKET, HANDSHAKE, ORIGINAL, LOWE, TOKENS, AGENT, BREACH];
 
 /// A word by its kind, with its part of the sheet.
-#[derive(Clone, Copy)]
+#[derive(Clone, Copy, Debug, PartialEq, Eq)]
 pub enum Word<'a> {
     Keyword(&'a [u8]),
     Number(&'a [u8]),
@@ -39,7 +39,7 @@ pub enum Word<'a> {
 }
 
 /// A word and the place of its first byte.
-#[derive(Clone, Copy)]
+#[derive(Clone, Copy, Debug, PartialEq, Eq)]
 pub struct Placed<'a> {
     pub word: Word<'a>,
     pub at: usize,
@@ -139,17 +139,25 @@ pub(crate) fn name_of<'a>(text: &'a [u8]) -> &'a [u8]
     }
 }
 
-// The number that digits write, if it is at most `high`. A loop, since a fold is no plainer: it has to stop before the
-// number leaves its type.
+// The number that digits write, or the greatest of its type.
+fn value(text: &[u8]) -> u32
+    ensures { result ≡ fold digit_on 0 text.now }
+{
+    text.iter().fold(0u32, |number, digit| {
+        number
+            .saturating_mul(10)
+            .saturating_add(u32::from(digit.saturating_sub(b'0')))
+    })
+}
+
+// The number that digits write, if it is at most `high`. The cast fits, which the check proves.
 pub(crate) fn value_up_to(text: &[u8], high: u16) -> Option<u16>
     ensures { result ≡ (if nat_le (read_on 0 text.now) high then Some (read_on 0 text.now) else None) }
 {
-    let mut value: u32 = 0;
-    for b in text {
-        value = value * 10 + u32::from(b.saturating_sub(b'0'));
-        if value > u32::from(high) {
-            return None;
-        }
+    let value = value(text);
+    if value <= u32::from(high) {
+        Some(value as u16)
+    } else {
+        None
     }
-    Some(value as u16)
 }

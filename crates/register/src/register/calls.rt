@@ -1,7 +1,8 @@
-// The calls of the register.
+//! The calls of the register.
 ghost use Rattle.std.specs.Prelude.{◌≡◌, [], Some as SomeCase};
 ghost use Rattle.register.specs.Views.{EntryView, stamped, FiledKindIsTrue};
-ghost use Rattle.register.specs.Plans.{PlansCompared};
+ghost use Rattle.sheets.specs.Reads.{plan_of};
+ghost use Rattle.register.specs.Plans.{PlansCompared, same_plan};
 ghost use Rattle.register.specs.Calls.{contents, place_of, lookup, open_of, viewed, ShownKindIsTrue, marked, issue_answer, file_check, file_answer, withdraw_answer};
 ghost use Rattle.register.specs.Rows.{after, issuing, filing, withdrawing, FiledDocketsAreTrue};
 
@@ -15,18 +16,18 @@ use sheets::fixed_list::FixedList;
 use sheets::read::read;
 
 // What stands in a place without an entry.
-fn blank() -> Entry {
-    let smallest = Handshake {
-        initiators: 1,
-        responders: 1,
-        capacity: 1,
-        lowe: false,
-    };
-    Entry {
-        number: 0,
-        model: Arrangement::Handshake(smallest),
-        status: Status::Withdrawn,
-    }
+const BLANK: Entry = Entry {
+    number: 0,
+    model: Arrangement::Handshake(Handshake::SMALLEST),
+    status: Status::Withdrawn,
+};
+
+// Whether two arrangements are one model: the same numbers, or the same lines and breach.
+#[tactic(auto, using(crate::proofs::Plans::same_is))]
+fn same_model(a: Arrangement, b: Arrangement) -> bool
+    ensures { result ≡ same_plan (plan_of a) (plan_of b) }
+{
+    a == b
 }
 
 impl Register {
@@ -35,9 +36,8 @@ impl Register {
         ensures empty { contents result ≡ [] }
         ensures rows { FiledDocketsAreTrue }
     {
-        Register {
-            entries: FixedList::new(blank()),
-        }
+        let entries = FixedList::new(BLANK);
+        Register { entries }
     }
 
     // Where the entry of a number stands.
@@ -65,6 +65,7 @@ impl Register {
         self.entry(number).filter(|entry| entry.status.is_open())
     }
 
+    // Gives the entry of a number another status.
     fn mark(&mut self, number: u16, status: Status)
         requires { (e : EntryView) → lookup number (contents self.old) ≡ SomeCase e → FiledKindIsTrue (stamped e status) }
         ensures { contents self.new ≡ marked number status (contents self.old) }
@@ -106,7 +107,7 @@ impl Register {
         let Some(entry) = self.open_entry(slip.number) else {
             return Err(FileFault::NotOpen);
         };
-        if verdict.number() == slip.number && verdict.model() == entry.model {
+        if verdict.number() == slip.number && same_model(verdict.model(), entry.model) {
             Ok(())
         } else {
             Err(FileFault::OtherDocket)
