@@ -196,7 +196,8 @@ fn say_issue(rt: &impl Print, what: &str, register: &mut Register, sheet: &[u8])
     }
 }
 
-// Files a verdict, and withdraws the slip that comes back where it is refused: the fault of each.
+// Files a verdict, and withdraws the slip that comes back where it is refused: the fault of each. Two `Option`s, as each call may
+// be refused, and the second is made only after the first was.
 fn file_and_withdraw(
     register: &mut Register,
     slip: Slip,

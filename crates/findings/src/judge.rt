@@ -1,4 +1,5 @@
 //! The judge: accepts exactly the findings that are true, whatever bytes it is given.
+// A `u32` becomes a `usize` by `as`: std has no `From` between them.
 ghost use Rattle.std.specs.Prelude.{◌≡◌, Ok};
 ghost use Rattle.bodies.specs.Acceptance.{Truth};
 ghost use Rattle.findings.specs.Judges.{IsJudged, LentTables, Judging, judged_as_model, plain_answer};

@@ -1,4 +1,5 @@
 //! Writing the finding of an examination.
+// Model, table and trail come apart: table and trail are the caller's memory, lent for a call.
 ghost use Rattle.std.specs.Prelude.{◌≡◌, length};
 ghost use Rattle.examination.specs.Search.{exam_of};
 ghost use Rattle.findings.specs.Writes.{finding_of, write_answer, write_left};

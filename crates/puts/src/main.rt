@@ -35,6 +35,7 @@ impl Cost {
         self.most = self.most.max(made);
     }
 
+    // A function and no `Display`: the line begins with what was put, which is no part of a cost.
     fn print(&self, rt: &impl Print, what: &str) -> io::Result<()> {
         let puts = usize::from(STATES);
         let whole = self.all / puts;
