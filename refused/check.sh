@@ -1,6 +1,6 @@
 #!/bin/sh
-# Programs that the compiler must refuse before any proof: each edit of program.txt breaks one rule of slips and verdicts,
-# and must get the message that it states. program.txt itself must be accepted. `rt must-fail` takes only edits that reach
+# Programs that the compiler must refuse before any proof: each edit of program.txt breaks one rule of slips and verdicts, or
+# names what a crate keeps to itself, and must get the message that it states. program.txt itself must be accepted. `rt must-fail` takes only edits that reach
 # the prover, so these are tried here, by the compiler's front end alone, on the libraries' sources: a check of a function
 # that has no name proves nothing. A line for each; the last is 'N refused as stated, M not'.
 set -eu
@@ -17,7 +17,7 @@ reach() {
     echo "$1"
 }
 set -- --extern "std=$kit/rlibs/std.rlib" --extern "core=$kit/rlibs/core.rlib" -L "dependency=$kit/rlibs"
-for lib in $(reach register | awk '!seen[$0]++'); do
+for lib in $({ reach register; reach tables; } | awk '!seen[$0]++'); do
     below=$(uses "$lib" | tr -s ' ' ',' | sed 's/,$//')
     set -- "$@" --lib "$lib:core,std${below:+,$below}=$top/crates/$lib/src/lib.rt"
 done

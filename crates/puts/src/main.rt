@@ -5,7 +5,7 @@ use mark::Mark;
 use meaning::table::{Placed, Table};
 use std::alloc::{AllocError, Global};
 use std::io;
-use tables::{Laid, Scatter, Slotted, Tree, put_both};
+use tables::{Scatter, Tree, put_both};
 
 mod mark;
 
@@ -73,10 +73,16 @@ fn row(heap: Global) -> Result<Vec<Mark>, AllocError> {
 }
 
 // Puts a row of states in a table, and counts what each put compares.
-fn put_all<L: Laid>(table: &mut Slotted<Mark, L>, row: &[Mark]) -> Cost {
+fn put_all<T: Table<State = Mark>, F: Fn(&T, &Mark) -> usize>(
+    table: &mut T,
+    row: &[Mark],
+    probes: F,
+) -> Cost
+    requires { F.IsAlwaysCallable probes }
+{
     let mut cost = Cost::new();
     for s in row {
-        cost.count(table.probes(s));
+        cost.count(probes(table, s));
         let _placed = table.put(s);
     }
     cost
@@ -86,10 +92,10 @@ fn put_all<L: Laid>(table: &mut Slotted<Mark, L>, row: &[Mark]) -> Cost {
 fn measure(rt: &impl Print, row: &[Mark], one: &mut Memory, two: &mut Memory) -> io::Result<()> {
     let mut scatter = Scatter::new(one.entries.as_mut_slice(), one.slots.as_mut_slice());
     let mut tree = Tree::new(two.entries.as_mut_slice(), two.slots.as_mut_slice());
-    put_all(&mut scatter, row).print(rt, "scattering table, new states")?;
-    put_all(&mut scatter, row).print(rt, "scattering table, held states")?;
-    put_all(&mut tree, row).print(rt, "search tree, new states")?;
-    put_all(&mut tree, row).print(rt, "search tree, held states")?;
+    put_all(&mut scatter, row, |t, s| t.probes(s)).print(rt, "scattering table, new states")?;
+    put_all(&mut scatter, row, |t, s| t.probes(s)).print(rt, "scattering table, held states")?;
+    put_all(&mut tree, row, |t, s| t.probes(s)).print(rt, "search tree, new states")?;
+    put_all(&mut tree, row, |t, s| t.probes(s)).print(rt, "search tree, held states")?;
     let first = one.answers.as_mut_slice();
     let second = two.answers.as_mut_slice();
     let both = put_both(&mut scatter, &mut tree, row, first, second);

@@ -1,7 +1,8 @@
 //! A small kind of state: a number under 65,536.
 ghost use Rattle.puts.specs.Marks.{mark_code, mark_scattered, mark_laws, mark_compared};
 
-use meaning::coded::Coded;
+use meaning::coded::{Coded, OrderedByCode};
+use std::cmp::Ordering;
 
 // Its multiples spread the numbers.
 const SPREAD: usize = 2654435761;
@@ -24,7 +25,13 @@ impl Coded for Mark {
 
     ghost laws = { mark_laws };
 
-    ghost compared = { mark_compared };
+    fn same(&self, other: &Mark) -> bool {
+        self == other
+    }
+
+    fn order(&self, other: &Mark) -> Ordering {
+        self.cmp(other)
+    }
 
     fn scatter(&self) -> usize {
         let spread = usize::from(self.number) * SPREAD % PRIME;
@@ -34,4 +41,8 @@ impl Coded for Mark {
     fn byte(&self, k: usize) -> u8 {
         self.number.to_be_bytes().get(k).copied().unwrap_or(0)
     }
+}
+
+impl OrderedByCode for Mark {
+    ghost compared = { mark_compared };
 }

@@ -15,12 +15,16 @@ use sheets::arrangement::{Arrangement, Handshake};
 use sheets::fixed_list::FixedList;
 use sheets::read::read;
 
-// What stands in a place without an entry.
-const BLANK: Entry = Entry {
-    number: 0,
-    model: Arrangement::Handshake(Handshake::SMALLEST),
-    status: Status::Withdrawn,
-};
+// What stands in a place without an entry. A call that is not inlined: of a constant, LLVM writes out the filling of all places and
+// each move of the list, and a new register takes many times the instructions.
+#[inline(never)]
+fn blank() -> Entry {
+    Entry {
+        number: 0,
+        model: Arrangement::Handshake(Handshake::SMALLEST),
+        status: Status::Withdrawn,
+    }
+}
 
 // Whether two arrangements are one model: the same numbers, or the same lines and breach.
 #[tactic(auto, using(crate::proofs::Plans::same_is))]
@@ -36,7 +40,7 @@ impl Register {
         ensures empty { contents result ≡ [] }
         ensures rows { FiledDocketsAreTrue }
     {
-        let entries = FixedList::new(BLANK);
+        let entries = FixedList::new(blank());
         Register { entries }
     }
 
