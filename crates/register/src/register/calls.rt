@@ -16,7 +16,7 @@ use sheets::fixed_list::FixedList;
 use sheets::read::read;
 
 // What stands in a place without an entry. A call that is not inlined: of a constant, LLVM writes out the filling of all places and
-// each move of the list, and a new register takes many times the instructions.
+// each move of the list, and making a register takes twice as long and more.
 #[inline(never)]
 fn blank() -> Entry {
     Entry {
